@@ -1,0 +1,89 @@
+-- "Numbers seen": the number and the fate of each answer.
+use mathlib.Core.Bool.{Bool, true, false, cond}
+use mathlib.Core.List.{List, [], _∷_}
+use Prim.Native.Nat.{ℕ}
+use lib.Dec.{eqb}
+use Rattle.rules.specs.Types.{Fate, Open, Closed, Undone, Standing, Refusal, Done, NotResting, Unfit, NotActive, StepFailed, PrepareFailed, PreparePanicked, Conflict, BoundDurably, FoundPoisoned, InsertFailed, CallbackFailed, CallbackPanicked, RemoveFailed, PublishFailed, RecycleFailed, FinishFailed, StampFailed, CutOff, CleanupFailed, NotRepairable, ActiveFull, ClockAtEnd, RowTooHigh, ReadsFull, WritesFull, SlotsFull, LockedByAnother, NoHead}
+
+abbrev pub numberOf : Refusal → ℕ
+numberOf Done = 0
+numberOf (NotResting f) = 1
+numberOf (Unfit f) = 2
+numberOf (NotActive f) = 3
+numberOf (StepFailed f) = 4
+numberOf (PrepareFailed f) = 5
+numberOf (PreparePanicked f) = 6
+numberOf (Conflict f) = 7
+numberOf (BoundDurably f) = 8
+numberOf (FoundPoisoned f) = 9
+numberOf (InsertFailed f) = 10
+numberOf (CallbackFailed f) = 11
+numberOf (CallbackPanicked f) = 12
+numberOf (RemoveFailed f) = 13
+numberOf (PublishFailed f) = 14
+numberOf (RecycleFailed f) = 15
+numberOf (FinishFailed f) = 16
+numberOf (StampFailed f) = 17
+numberOf (CutOff f) = 18
+numberOf (CleanupFailed f) = 19
+numberOf (NotRepairable f) = 20
+numberOf (ActiveFull f) = 21
+numberOf (ClockAtEnd f) = 22
+numberOf (RowTooHigh f) = 23
+numberOf (ReadsFull f) = 24
+numberOf (WritesFull f) = 25
+numberOf (SlotsFull f) = 26
+numberOf (LockedByAnother f) = 27
+numberOf (NoHead f) = 28
+
+-- "Each refusal carries its fate inside it"; an answer 0 has no fate, and is left open
+abbrev pub fateIn : Refusal → Fate
+fateIn Done = Open
+fateIn (NotResting f) = f
+fateIn (Unfit f) = f
+fateIn (NotActive f) = f
+fateIn (StepFailed f) = f
+fateIn (PrepareFailed f) = f
+fateIn (PreparePanicked f) = f
+fateIn (Conflict f) = f
+fateIn (BoundDurably f) = f
+fateIn (FoundPoisoned f) = f
+fateIn (InsertFailed f) = f
+fateIn (CallbackFailed f) = f
+fateIn (CallbackPanicked f) = f
+fateIn (RemoveFailed f) = f
+fateIn (PublishFailed f) = f
+fateIn (RecycleFailed f) = f
+fateIn (FinishFailed f) = f
+fateIn (StampFailed f) = f
+fateIn (CutOff f) = f
+fateIn (CleanupFailed f) = f
+fateIn (NotRepairable f) = f
+fateIn (ActiveFull f) = f
+fateIn (ClockAtEnd f) = f
+fateIn (RowTooHigh f) = f
+fateIn (ReadsFull f) = f
+fateIn (WritesFull f) = f
+fateIn (SlotsFull f) = f
+fateIn (LockedByAnother f) = f
+fateIn (NoHead f) = f
+
+-- "poisoned and undone where another call poisons, even a poisoned store; closed .. where the transaction was aborted; else open"
+abbrev pub fate : Bool → Bool → Fate
+fate poisons aborted = cond poisons Undone (cond aborted Closed Open)
+
+-- a refusal and when it is given
+pub record Try : Type 0 where
+  pub when : Bool
+  pub says : Refusal
+
+abbrev pub refuse : Bool → Refusal → Try
+refuse b why = record { when = b; says = why }
+
+-- the first that holds, else `Done`
+abbrev pub tries : List Try → Refusal
+tries [] = Done
+tries (x ∷ l) = let r = tries l in cond (x .when) (x .says) r
+
+abbrev pub isDone : Refusal → Bool
+isDone why = eqb (numberOf why) 0

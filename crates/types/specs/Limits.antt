@@ -1,0 +1,67 @@
+-- The limits of "Store and transaction". Every other definition and every law names them. (src/lib.rt names the same limits for the
+-- arrays; the contracts of `Store::fresh`, `Tx::zero` and `Schedule::none` tie the two together.)
+use mathlib.Core.List.{List}
+use Prim.Native.Nat.{ℕ, suc, _*_}
+use lib.ListN.{replicate}
+
+-- "64 row ids (0 to 63)"
+abbrev pub rows : ℕ
+rows = 64
+
+-- "256 slots, 1 to 256"
+abbrev pub slots : ℕ
+slots = 256
+
+-- slot p stands at place p, and place 0 is no slot
+abbrev pub places : ℕ
+places = suc slots
+
+-- "at most 128" postings
+abbrev pub postingLimit : ℕ
+postingLimit = 128
+
+-- "Key k has stripe k mod 16; row id r has partition r mod 16."
+abbrev pub stripes : ℕ
+stripes = 16
+
+abbrev pub partitions : ℕ
+partitions = 16
+
+-- "Active txids: at most 16"; and so in a snapshot
+abbrev pub activeLimit : ℕ
+activeLimit = 16
+
+-- "At most 16 writes, 32 reads, 16 index reads, .. 4 savepoints."
+abbrev pub writeLimit : ℕ
+writeLimit = 16
+
+abbrev pub readLimit : ℕ
+readLimit = 32
+
+abbrev pub indexReadLimit : ℕ
+indexReadLimit = 16
+
+abbrev pub savepointLimit : ℕ
+savepointLimit = 4
+
+-- "The table of 24 steps"; one fault more is never fit
+abbrev pub stepCount : ℕ
+stepCount = 24
+
+abbrev pub faultLimit : ℕ
+faultLimit = suc stepCount
+
+-- "a 32-bit key"; "A 64-bit clock"
+abbrev pub keyEnd : ℕ
+keyEnd = 4294967296
+
+abbrev pub clockEnd : ℕ
+clockEnd = 18446744073709551615
+
+-- "Replay": "place 0 to 15"
+abbrev pub placeLimit : ℕ
+placeLimit = 16
+
+-- no slot marked; shut, since a goal would show all its zeros
+unfoldable pub noMarks : List ℕ
+noMarks = replicate places 0
