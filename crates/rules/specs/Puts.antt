@@ -1,5 +1,5 @@
 -- Changes of the store: "A store is one guard, posting, xmax, head, slot, active-list, stamp or poison change." Every call changes the
--- store by puts alone; those of kinds 1 to 11 are the counted stores of a commit.
+-- store by puts alone.
 use mathlib.Core.Bool.{Bool, true, false, not, cond, _&&_, _||_}
 use mathlib.Core.List.{List, [], _∷_, _++_, map}
 use Prim.Native.Nat.{ℕ}
@@ -11,6 +11,58 @@ use Rattle.rules.specs.Types.{Store, Value, Absent, Key}
 use Rattle.rules.specs.Store.{usedSlots, postingsOf, activeTxids}
 use Rattle.rules.specs.Chains.{walk, on}
 
+-- the kinds: 1 to 11 are the counted stores of a commit, 12 to 17 the changes of begin, write and row lock, which nothing counts
+abbrev pub kStripe : ℕ
+kStripe = 1
+
+abbrev pub kPartition : ℕ
+kPartition = 2
+
+abbrev pub kInsert : ℕ
+kInsert = 3
+
+abbrev pub kRemove : ℕ
+kRemove = 4
+
+abbrev pub kXmax : ℕ
+kXmax = 5
+
+abbrev pub kHead : ℕ
+kHead = 6
+
+abbrev pub kFree : ℕ
+kFree = 7
+
+abbrev pub kDrop : ℕ
+kDrop = 8
+
+abbrev pub kStamp : ℕ
+kStamp = 9
+
+abbrev pub kPoison : ℕ
+kPoison = 10
+
+abbrev pub kDoom : ℕ
+kDoom = 11
+
+abbrev pub kEnter : ℕ
+kEnter = 12
+
+abbrev pub kClock : ℕ
+kClock = 13
+
+abbrev pub kXmin : ℕ
+kXmin = 14
+
+abbrev pub kNext : ℕ
+kNext = 15
+
+abbrev pub kKey : ℕ
+kKey = 16
+
+abbrev pub kLock : ℕ
+kLock = 17
+
 -- a kind of change, the place and the number put there
 pub record Put : Type 0 where
   pub kind : ℕ
@@ -20,59 +72,57 @@ pub record Put : Type 0 where
 abbrev pub put : ℕ → ℕ → ℕ → Put
 put k p v = record { kind = k; at = p; val = v }
 
--- the counted stores
 abbrev pub putStripe : ℕ → ℕ → Put
-putStripe i t = put 1 i t
+putStripe i t = put kStripe i t
 
 abbrev pub putPartition : ℕ → ℕ → Put
-putPartition i t = put 2 i t
+putPartition i t = put kPartition i t
 
 abbrev pub putInsert : ℕ → Put
-putInsert c = put 3 0 c
+putInsert c = put kInsert 0 c
 
 abbrev pub putRemove : ℕ → Put
-putRemove c = put 4 0 c
+putRemove c = put kRemove 0 c
 
 abbrev pub putXmax : ℕ → ℕ → Put
-putXmax p t = put 5 p t
+putXmax p t = put kXmax p t
 
 abbrev pub putHead : ℕ → ℕ → Put
-putHead r p = put 6 r p
+putHead r p = put kHead r p
 
 abbrev pub putFree : ℕ → Put
-putFree p = put 7 p 0
+putFree p = put kFree p 0
 
 abbrev pub putDrop : ℕ → Put
-putDrop t = put 8 0 t
+putDrop t = put kDrop 0 t
 
 abbrev pub putStamp : ℕ → ℕ → Put
-putStamp i t = put 9 i t
+putStamp i t = put kStamp i t
 
 abbrev pub putPoison : Put
-putPoison = put 10 0 0
+putPoison = put kPoison 0 0
 
 -- "A poison store, doom included"
 abbrev pub putDoom : ℕ → Put
-putDoom t = put 11 0 t
+putDoom t = put kDoom 0 t
 
--- the changes of begin, write and row lock, which nothing counts
 abbrev pub putEnter : ℕ → Put
-putEnter t = put 12 0 t
+putEnter t = put kEnter 0 t
 
 abbrev pub putClock : ℕ → Put
-putClock t = put 13 0 t
+putClock t = put kClock 0 t
 
 abbrev pub putXmin : ℕ → ℕ → Put
-putXmin p t = put 14 p t
+putXmin p t = put kXmin p t
 
 abbrev pub putNext : ℕ → ℕ → Put
-putNext p q = put 15 p q
+putNext p q = put kNext p q
 
 abbrev pub putKey : ℕ → ℕ → Put
-putKey p k = put 16 p k
+putKey p k = put kKey p k
 
 abbrev pub putLock : ℕ → ℕ → Put
-putLock p t = put 17 p t
+putLock p t = put kLock p t
 
 module _ (p : Put) where
   abbrev pub is : ℕ → Bool
@@ -86,34 +136,34 @@ module _ (p : Put) where
   raises k l = cond (is k) (set l (p .at) true) l
 
   abbrev pub frees {ℓ} : {A : Type ℓ} → A → List A → List A
-  frees z l = cond (is 7) (set l (p .at) z) l
+  frees z l = cond (is kFree) (set l (p .at) z) l
 
   abbrev pub posts : List ℕ → List ℕ
-  posts l = cond (is 3) (into (p .val) l) (without (p .val) l)
+  posts l = cond (is kInsert) (into (p .val) l) (without (p .val) l)
 
   abbrev pub enters : List ℕ → List ℕ
-  enters l = cond (is 12) (l ++ p .val ∷ []) (without (p .val) l)
+  enters l = cond (is kEnter) (l ++ p .val ∷ []) (without (p .val) l)
 
 -- one put, field by field
 abbrev pub apply : Put → Store → Store
 apply p S = record {
-  heads = sets p 6 (S .heads);
-  xmin = frees p 0 (sets p 14 (S .xmin));
-  xmax = frees p 0 (sets p 5 (S .xmax));
-  next = frees p 0 (sets p 15 (S .next));
-  key = frees p 0 (sets p 16 (S .key));
-  has = frees p false (raises p 16 (S .has));
-  locked = frees p false (raises p 17 (S .locked));
-  owner = frees p 0 (sets p 17 (S .owner));
-  postings = cond (is p 3 || is p 4) (pad postingLimit 0 (posts p (postingsOf S))) (S .postings);
-  «posting_count» = cond (is p 3 || is p 4) (length (posts p (postingsOf S))) (S .«posting_count»);
-  «stripe_guards» = sets p 1 (S .«stripe_guards»);
-  «partition_guards» = sets p 2 (S .«partition_guards»);
-  stamps = sets p 9 (S .stamps);
-  active = cond (is p 8 || is p 12) (pad activeLimit 0 (enters p (activeTxids (S .active)))) (S .active);
-  clock = cond (is p 13) (p .val) (S .clock);
-  poisoned = is p 10 || (is p 11 || S .poisoned);
-  doomed = cond (is p 11) (p .val) (S .doomed);
+  heads = sets p kHead (S .heads);
+  xmin = frees p 0 (sets p kXmin (S .xmin));
+  xmax = frees p 0 (sets p kXmax (S .xmax));
+  next = frees p 0 (sets p kNext (S .next));
+  key = frees p 0 (sets p kKey (S .key));
+  has = frees p false (raises p kKey (S .has));
+  locked = frees p false (raises p kLock (S .locked));
+  owner = frees p 0 (sets p kLock (S .owner));
+  postings = cond (is p kInsert || is p kRemove) (pad postingLimit 0 (posts p (postingsOf S))) (S .postings);
+  «posting_count» = cond (is p kInsert || is p kRemove) (length (posts p (postingsOf S))) (S .«posting_count»);
+  «stripe_guards» = sets p kStripe (S .«stripe_guards»);
+  «partition_guards» = sets p kPartition (S .«partition_guards»);
+  stamps = sets p kStamp (S .stamps);
+  active = cond (is p kDrop || is p kEnter) (pad activeLimit 0 (enters p (activeTxids (S .active)))) (S .active);
+  clock = cond (is p kClock) (p .val) (S .clock);
+  poisoned = is p kPoison || (is p kDoom || S .poisoned);
+  doomed = cond (is p kDoom) (p .val) (S .doomed);
   bound = S .bound;
 }
 
