@@ -20,3 +20,7 @@ pub mod Script
 -- Laws about them.
 pub mod Computing
 pub mod Mornings
+pub mod Bools
+pub mod Guards
+pub mod Outcome
+pub mod Rows
