@@ -24,3 +24,4 @@ pub mod Bools
 pub mod Guards
 pub mod Outcome
 pub mod Rows
+pub mod Released

@@ -118,7 +118,7 @@ module _ (S : Store) (x : Tx) (logged : Bool) (plan : Schedule) where
   abbrev pub four : ℕ → Bool
   four n = eqb n 4 || eqb n 8
 
-  given-back : {taken back : List Put} → resting S ≡ true → Taken S x logged plan taken back → applyAll (taken ++ back) S ≡ S
+  pub given-back : {taken back : List Put} → resting S ≡ true → Taken S x logged plan taken back → applyAll (taken ++ back) S ≡ S
   given-back h neither = refl
   given-back h index = index-back S x (guards-zero S h .0)
   given-back h both = both-back S x (guards-zero S h .0) (guards-zero S h .1)
