@@ -21,6 +21,7 @@ pub mod Script
 pub mod Computing
 pub mod Mornings
 pub mod Bools
+pub mod Only
 pub mod Guards
 pub mod Outcome
 pub mod Rows

@@ -1,114 +1,110 @@
 -- "Every commit answer but 1 and 18 leaves no guard held."
 use mathlib.Core.Path.{_≡_, refl, sym, ap, _∙_}
-use mathlib.Core.Bool.{Bool, true, false, not, cond, _||_}
+use mathlib.Core.Bool.{Bool, true, false, cond, _||_}
 use mathlib.Core.List.{List, [], _∷_, _++_, map, reverse, append-assoc}
-use Prim.Native.Nat.{ℕ, zero, suc}
+use Prim.Native.Nat.{ℕ}
 use lib.ListN.{take}
 use lib.Dec.{eqb}
-use Rattle.rules.specs.Bools.{or-false, by}
-use Rattle.rules.specs.Lists.{allZero, flat}
+use Rattle.rules.specs.Bools.{by}
+use Rattle.rules.specs.Lists.{allZero, flat, memb}
 use Rattle.rules.specs.Types.{Store, Tx, Txid, RowId, SlotPtr, Write, Schedule, Cut, Fate, Refusal}
 use Rattle.rules.specs.Transaction.{finals}
 use Rattle.rules.specs.Admitted.{resting}
 use Rattle.rules.specs.Numbers.{numberOf}
-use Rattle.rules.specs.Puts.{Put, kStripe, kPartition, is, sets, putInsert, putRemove, putFree, putDrop, putStamp, putPoison, apply, applyAll, ownSlots, abortPuts}
+use Rattle.rules.specs.Puts.{Put, kStripe, kPartition, kInsert, kRemove, kXmax, kHead, kFree, kDrop, kStamp, kPoison, kDoom, sets, putInsert, putRemove, putXmax, putHead, putFree, putDrop, putStamp, putPoison, putDoom, apply, applyAll, ownSlots, abortPuts}
 use Rattle.rules.specs.Changes.{changes, destinations, sources, changedStripes, recycled, publishOne, indexGuards, partitionGuards, release, insertions, removals, publication, recycling, stamping}
 use Rattle.rules.specs.Commit.{End, Clean, poison, fails, count, finish, abortOrPoison, rollback, runOf}
 use Rattle.rules.specs.Answer.{uncut, commit}
+use Rattle.rules.specs.Only.{only, only-both, only-map, only-take, only-if, kept, is-not}
 use Rattle.rules.specs.Guards.{applyAll-append, guards-zero, both-back}
 use Rattle.rules.specs.Outcome.{guardsTaken, afterInsert, afterRemove, afterPublish, afterRecycle, afterFinish, afterStamp, aborting, rollingBack, worse, undoing, abortingLate, Spoil, unremoved, unpublished, unrecycled, unfinished, Outcome, done, stays, aborts, uninserted, uncalled, spoils, unstamped, outcome}
 use Rattle.rules.specs.Rows.{Admitted, whole, given-back}
 
+-- the kinds of a commit's puts other than guards
+abbrev pub unguarded : List ℕ
+unguarded = kInsert ∷ kRemove ∷ kXmax ∷ kHead ∷ kFree ∷ kDrop ∷ kStamp ∷ kPoison ∷ kDoom ∷ []
+
 -- puts that touch no guard
-abbrev pub sparesGuards : Put → Bool
-sparesGuards p = not (is p kStripe || is p kPartition)
-
-pub data Guardless : List Put → Type 0 where
-  none : Guardless []
-  more : {p : Put} {ps : List Put} → sparesGuards p ≡ true → Guardless ps → Guardless (p ∷ ps)
-
-not-true : (b : Bool) → not b ≡ true → b ≡ false
-not-true true e = sym e
-not-true false e = refl
+pub record Guardless (ps : List Put) : Type 0 where
+  pub spares : only unguarded ps ≡ true
 
 -- two stores with the same guards
 pub record SameGuards (T S : Store) : Type 0 where
   pub stripe : T .«stripe_guards» ≡ S .«stripe_guards»
   pub partition : T .«partition_guards» ≡ S .«partition_guards»
 
-pub guards-kept : {ps : List Put} (S : Store) → Guardless ps → SameGuards (applyAll ps S) S
-guards-kept S none = record { stripe = refl; partition = refl }
-guards-kept S (more {p = p} {ps = ps} h k) =
-    let o = or-false (is p kStripe) (is p kPartition) (not-true _ h) in
-    let r = guards-kept (apply p S) k in
-    record { stripe = r .stripe ∙ rw (o .0); partition = r .partition ∙ rw (o .1) }
+guards-kept : {ps : List Put} (S : Store) → Guardless ps → SameGuards (applyAll ps S) S
+guards-kept {ps} S h = record {
+  stripe = kept (λ T. T .«stripe_guards») unguarded (λ p T m. rw (is-not unguarded kStripe refl p m)) ps S (h .spares);
+  partition = kept (λ T. T .«partition_guards») unguarded (λ p T m. rw (is-not unguarded kPartition refl p m)) ps S (h .spares);
+}
 
 -- guards depend on guards alone
-pub guards-through : (ps : List Put) {T U : Store} → SameGuards T U → SameGuards (applyAll ps T) (applyAll ps U)
+guards-through : (ps : List Put) {T U : Store} → SameGuards T U → SameGuards (applyAll ps T) (applyAll ps U)
 guards-through [] h = h
 guards-through (p ∷ ps) h = guards-through ps (record { stripe = ap (sets p kStripe) (h .stripe); partition = ap (sets p kPartition) (h .partition) })
 
-guardless-map : {A : Type 0} (f : A → Put) (l : List A) → ((a : A) → sparesGuards (f a) ≡ true) → Guardless (map f l)
-guardless-map f [] h = none
-guardless-map f (a ∷ l) h = more (h a) (guardless-map f l h)
-
-guardless-append : {ps qs : List Put} → Guardless ps → Guardless qs → Guardless (ps ++ qs)
-guardless-append none k = k
-guardless-append (more a h) k = more a (guardless-append h k)
-
-guardless-take : {ps : List Put} (n : ℕ) → Guardless ps → Guardless (take n ps)
-guardless-take zero h = none
-guardless-take (suc n) none = none
-guardless-take (suc n) (more a h) = more a (guardless-take n h)
-
-guardless-if : (b : Bool) {ps qs : List Put} → Guardless ps → Guardless qs → Guardless (cond b ps qs)
-guardless-if true h k = h
-guardless-if false h k = k
-
-guardless-published : (t : ℕ) (ws : List Write) → Guardless (flat (publishOne t) ws)
+published : (t : ℕ) (ws : List Write) → only unguarded (flat (publishOne t) ws) ≡ true
 unfolding publishOne
-guardless-published t [] = none
-guardless-published t (w ∷ ws) = guardless-append (guardless-if (eqb (w .base .0) 0) (more refl none) (more refl (more refl none))) (guardless-published t ws)
+published t [] = refl
+published t (w ∷ ws) =
+    only-both unguarded (publishOne t w) (flat (publishOne t) ws)
+    (only-if unguarded (eqb (w .base .0) 0) (putHead (w .row .0) (w .new .0) ∷ []) (putXmax (w .base .0) t ∷ putHead (w .row .0) (w .new .0) ∷ []) refl refl)
+    (published t ws)
 
 module _ (S : Store) (x : Tx) (logged : Bool) (plan : Schedule) where
   inserting : Guardless (insertions S x)
   unfolding insertions
-  inserting = guardless-map putInsert (destinations (changes S x)) (λ c. refl)
+  inserting = record { spares = only-map unguarded putInsert (destinations (changes S x)) (λ c. refl) }
 
   removing : Guardless (removals S x)
   unfolding removals
-  removing = guardless-map putRemove (sources (changes S x)) (λ c. refl)
+  removing = record { spares = only-map unguarded putRemove (sources (changes S x)) (λ c. refl) }
 
   publishing : Guardless (publication x)
   unfolding publication
-  publishing = guardless-published (x .txid .0) (finals x)
+  publishing = record { spares = published (x .txid .0) (finals x) }
 
   freeing : Guardless (recycling S x)
   unfolding recycling
-  freeing = guardless-map putFree (recycled S x) (λ p. refl)
+  freeing = record { spares = only-map unguarded putFree (recycled S x) (λ p. refl) }
 
   stamps : Guardless (stamping S x)
   unfolding stamping
-  stamps = guardless-map (λ i. putStamp i (x .txid .0)) (changedStripes (changes S x)) (λ i. refl)
+  stamps = record { spares = only-map unguarded (λ i. putStamp i (x .txid .0)) (changedStripes (changes S x)) (λ i. refl) }
+
+  some : {ps : List Put} (n : ℕ) → Guardless ps → Guardless (take n ps)
+  some {ps} n h = record { spares = only-take unguarded n ps (h .spares) }
 
   poisoning : (b : Bool) → Guardless (poison b)
-  poisoning b = guardless-if b none (more refl none)
+  poisoning b = record { spares = only-if unguarded b [] (putPoison ∷ []) refl refl }
 
   aborted : (b : Bool) → Guardless (abortOrPoison S x logged plan b .puts)
   unfolding abortOrPoison abortPuts
-  aborted b = by (fails S x logged plan 23) (λ e. rw e (poisoning b)) (λ e. rw e (guardless-append (guardless-map putFree (ownSlots (S .heads) (S .next) (S .xmin) (x .txid .0)) (λ p. refl)) (more refl none)))
+  aborted b = by (fails S x logged plan 23)
+      (λ e. rw e (poisoning b))
+      (λ e. rw e (record { spares = only-both unguarded (map putFree (ownSlots (S .heads) (S .next) (S .xmin) (x .txid .0))) (putDrop (x .txid .0) ∷ []) (only-map unguarded putFree (ownSlots (S .heads) (S .next) (S .xmin) (x .txid .0)) (λ p. refl)) refl }))
 
   rolled : (b : Bool) (made : List ℕ) → Guardless (rollback S x logged plan b made .puts)
   unfolding rollback
-  rolled b made = by (fails S x logged plan 24)
-      (λ e. rw e (guardless-append (guardless-take (count S x logged plan 24) (guardless-map putRemove (reverse made) (λ c. refl))) (poisoning b)))
-      (λ e. rw e (guardless-map putRemove (reverse made) (λ c. refl)))
+  rolled b made =
+      let back = only-map unguarded putRemove (reverse made) (λ c. refl) in
+      let n = count S x logged plan 24 in
+      by (fails S x logged plan 24)
+      (λ e. rw e (record { spares = only-both unguarded (take n (map putRemove (reverse made))) (poison b) (only-take unguarded n (map putRemove (reverse made)) back) (poisoning b .spares) }))
+      (λ e. rw e (record { spares = back }))
 
-  one : (p : Put) → sparesGuards p ≡ true → Guardless (p ∷ [])
-  one p h = more h none
+  one : (p : Put) → memb (p .kind) unguarded ≡ true → Guardless (p ∷ [])
+  one p h = record { spares = rw h }
 
-  finishing : Guardless (finish S x logged plan)
-  finishing = guardless-if (fails S x logged plan 21) none (more refl none)
+  none : Guardless []
+  none = record { spares = refl }
+
+  called : Guardless (cond (worse S x logged plan) (putPoison ∷ []) [])
+  called = record { spares = only-if unguarded (worse S x logged plan) (putPoison ∷ []) [] refl refl }
+
+  doomed : Guardless (putDoom (x .txid .0) ∷ finish S x logged plan)
+  doomed = record { spares = only-if unguarded (fails S x logged plan 21) [] (putDrop (x .txid .0) ∷ []) refl refl }
 
   -- all guards taken, then puts that touch none
   pub data Between : List Put → Type 0 where
@@ -135,10 +131,10 @@ module _ (S : Store) (x : Tx) (logged : Bool) (plan : Schedule) where
 
   spoiled : {n : ℕ} {made some finishing : List Put} {poisons : Put} {kind : Fate → Refusal} {y : Tx} {drops : Bool} → Spoil S x logged plan n made some poisons finishing kind y drops
       → Between made × Guardless some × Guardless (poisons ∷ finishing)
-  spoiled (unremoved k) = (then start inserting, guardless-take (count S x logged plan 17) removing, more refl none)
-  spoiled (unpublished k) = (then (then start inserting) removing, guardless-take (count S x logged plan 18) publishing, more refl finishing)
-  spoiled (unrecycled k) = (then (then (then start inserting) removing) publishing, guardless-take (count S x logged plan 19) freeing, more refl finishing)
-  spoiled (unfinished k) = (then (then (then (then start inserting) removing) publishing) freeing, none, more refl none)
+  spoiled (unremoved k) = (then start inserting, some (count S x logged plan 17) removing, one putPoison refl)
+  spoiled (unpublished k) = (then (then start inserting) removing, some (count S x logged plan 18) publishing, doomed)
+  spoiled (unrecycled k) = (then (then (then start inserting) removing) publishing, some (count S x logged plan 19) freeing, doomed)
+  spoiled (unfinished k) = (then (then (then (then start inserting) removing) publishing) freeing, none, one (putDoom (x .txid .0)) refl)
 
   no-guard : (n : ℕ) (ps : List Put) (d : End) → resting S ≡ true → Outcome S x logged plan n ps d → SameGuards (applyAll ps S) S
   no-guard _ _ _ r (done p) = let-go r (then (then (then (then (then (then start inserting) removing) publishing) freeing) (one (putDrop (x .txid .0)) refl)) stamps)
@@ -147,12 +143,12 @@ module _ (S : Store) (x : Tx) (logged : Bool) (plan : Schedule) where
       rw (sym (append-assoc taken back (aborting S x logged plan .puts)), applyAll-append (taken ++ back) (aborting S x logged plan .puts) S, given-back S x logged plan r t)
       (guards-kept S (aborted (S .poisoned)))
   no-guard _ _ _ r (uninserted p k) =
-      simp append-assoc (simp append-assoc at (let-go r (then (then start (guardless-take (count S x logged plan 15) inserting)) (rolled false (take (count S x logged plan 15) (destinations (changes S x)))))))
+      simp append-assoc (simp append-assoc at (let-go r (then (then start (some (count S x logged plan 15) inserting)) (rolled false (take (count S x logged plan 15) (destinations (changes S x)))))))
   no-guard _ _ _ r (uncalled p l k) =
-      simp append-assoc (simp append-assoc at (let-go r (then (then (then (then start inserting) (guardless-if (worse S x logged plan) (one putPoison refl) none)) (rolled (worse S x logged plan) (destinations (changes S x)))) (aborted (worse S x logged plan || undoing S x logged plan .failed)))))
+      simp append-assoc (simp append-assoc at (let-go r (then (then (then (then start inserting) called) (rolled (worse S x logged plan) (destinations (changes S x)))) (aborted (worse S x logged plan || undoing S x logged plan .failed)))))
   no-guard _ _ _ r (spoils p k) = let h = spoiled k in simp append-assoc (simp append-assoc at (let-go r (then (then (h .0) (h .1)) (h .2))))
   no-guard _ _ _ r (unstamped p k) =
-      simp append-assoc (simp append-assoc at (let-go r (then (then (then (then (then (then (then start inserting) removing) publishing) freeing) (one (putDrop (x .txid .0)) refl)) (guardless-take (count S x logged plan 22) stamps)) (one putPoison refl))))
+      simp append-assoc (simp append-assoc at (let-go r (then (then (then (then (then (then (then start inserting) removing) publishing) freeing) (one (putDrop (x .txid .0)) refl)) (some (count S x logged plan 22) stamps)) (one putPoison refl))))
 
   -- an admitted commit that isn't cut leaves no guard held: T is a test of numbers that 18 fails
   pub guards-released : (cut : Cut) → Admitted S x plan → (T : ℕ → Bool) → T 18 ≡ false → let a = commit S x logged plan cut in
