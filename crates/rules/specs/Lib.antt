@@ -26,3 +26,4 @@ pub mod Guards
 pub mod Outcome
 pub mod Rows
 pub mod Released
+pub mod Aftermath

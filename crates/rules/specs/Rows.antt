@@ -51,6 +51,22 @@ module _ (S : Store) (x : Tx) (logged : Bool) (plan : Schedule) where
   unfolding commit
   admitted cut a = rw (a .rests, a .fits, a .planned, a .active)
 
+  -- what holds of the three refusals and of the steps holds of every commit
+  pub every-commit : (Q : Answer → Type 0) (cut : Cut)
+      → Q (unchanged S x (NotResting Open)) → Q (unchanged S x (Unfit Open)) → Q (unchanged S x (NotActive Closed))
+      → (Admitted S x plan → Q (answer S x logged (runOf S x logged plan) cut))
+      → Q (commit S x logged plan cut)
+  every-commit Q cut one two three steps =
+      by (resting S)
+      (λ h. by (fit S x && scheduleFit plan)
+      (λ k. by (memb (x .txid .0) (activeTxids (S .active)))
+      (λ l. let f = and-true (fit S x) (scheduleFit plan) k in
+      let ok : Admitted S x plan = record { rests = h; fits = f .0; planned = f .1; active = l } in
+      rw (admitted cut ok) (steps ok))
+      (λ l. rw (row-3 cut h k l) three))
+      (λ k. rw (row-2 cut h k) two))
+      (λ h. rw (row-1 cut h) one)
+
   -- an answer whose number isn't 18 is that of the whole run: T is a test of numbers that 18 fails
   pub whole : (cut : Cut) → Admitted S x plan → (T : ℕ → Bool) → T 18 ≡ false → T (numberOf (commit S x logged plan cut .refusal)) ≡ true
       → commit S x logged plan cut ≡ uncut S x logged (runOf S x logged plan)
@@ -64,7 +80,7 @@ module _ (S : Store) (x : Tx) (logged : Bool) (plan : Schedule) where
 
 -- which numbers each family can't give: a test of numbers that is false at a family's own numbers is false there
 module _ {S : Store} {x : Tx} {logged : Bool} {plan : Schedule} (T : ℕ → Bool) where
-  stay-not : {kind : Fate → Refusal} → T 4 ≡ false → T 8 ≡ false → Stay S x logged plan kind → (f : Fate) → T (numberOf (kind f)) ≡ false
+  pub stay-not : {kind : Fate → Refusal} → T 4 ≡ false → T 8 ≡ false → Stay S x logged plan kind → (f : Fate) → T (numberOf (kind f)) ≡ false
   stay-not a b (faulted h) f = a
   stay-not a b (durable h) f = b
 
@@ -81,11 +97,11 @@ module _ {S : Store} {x : Tx} {logged : Bool} {plan : Schedule} (T : ℕ → Boo
   abort-either a b c d e (unhealthy h) true f = e
   abort-either a b c d e (unhealthy h) false f = d
 
-  abort-not : {kind failed : Fate → Refusal} {found preparing : Bool} → T 5 ≡ false → T 6 ≡ false → T 7 ≡ false → T 9 ≡ false → T 19 ≡ false
+  pub abort-not : {kind failed : Fate → Refusal} {found preparing : Bool} → T 5 ≡ false → T 6 ≡ false → T 7 ≡ false → T 9 ≡ false → T 19 ≡ false
       → Abort S x logged plan kind failed found preparing → T (numberOf (cond (aborting S x logged plan .failed) failed kind (fate (aborting S x logged plan .failed) true))) ≡ false
   abort-not a b c d e k = abort-either a b c d e k (aborting S x logged plan .failed) (fate (aborting S x logged plan .failed) true)
 
-  spoil-not : {n : ℕ} {made some finishing : List Put} {poisoning : Put} {kind : Fate → Refusal} {y : Tx} {drops : Bool}
+  pub spoil-not : {n : ℕ} {made some finishing : List Put} {poisoning : Put} {kind : Fate → Refusal} {y : Tx} {drops : Bool}
       → T 13 ≡ false → T 14 ≡ false → T 15 ≡ false → T 16 ≡ false → Spoil S x logged plan n made some poisoning finishing kind y drops → (f : Fate) → T (numberOf (kind f)) ≡ false
   spoil-not a b c d (unremoved h) f = a
   spoil-not a b c d (unpublished h) f = b
@@ -99,7 +115,7 @@ called-any T a b c false true f = c
 called-any T a b c false false f = a
 
 module _ (S : Store) (x : Tx) (logged : Bool) (plan : Schedule) where
-  called-not : (T : ℕ → Bool) → T 11 ≡ false → T 12 ≡ false → T 19 ≡ false
+  pub called-not : (T : ℕ → Bool) → T 11 ≡ false → T 12 ≡ false → T 19 ≡ false
       → T (numberOf (cond (panics S x logged plan) CallbackPanicked (cond (bad S x logged plan) CleanupFailed CallbackFailed) (fate (worse S x logged plan || bad S x logged plan) (not (abortingLate S x logged plan .failed))))) ≡ false
   called-not T a b c = called-any T a b c (panics S x logged plan) (bad S x logged plan) _
 
