@@ -27,3 +27,4 @@ pub mod Outcome
 pub mod Rows
 pub mod Released
 pub mod Aftermath
+pub mod EventLaws
