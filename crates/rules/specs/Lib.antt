@@ -28,3 +28,4 @@ pub mod Rows
 pub mod Released
 pub mod Aftermath
 pub mod EventLaws
+pub mod Gates
