@@ -1,0 +1,17 @@
+-- Laws of the definitions of the crate `rules`.
+pub mod Lists
+pub mod Chain
+pub mod Walk
+pub mod Sound
+pub mod Chained
+pub mod Check
+pub mod Beside
+pub mod Sized
+pub mod Finals
+pub mod Published
+pub mod Parts
+pub mod Freed
+pub mod Recycled
+pub mod Reads
+pub mod AsItStands
+pub mod Abort

@@ -1,0 +1,1 @@
+// Nothing runs here: the laws of the definitions of `rules` stand in specs/.
