@@ -29,3 +29,6 @@ pub mod Released
 pub mod Aftermath
 pub mod EventLaws
 pub mod Gates
+pub mod FaultTable
+pub mod Struck
+pub mod TestLaws
