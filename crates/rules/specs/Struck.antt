@@ -77,7 +77,8 @@ lookedUp r v = done ++ lineB 0 ∷ lineL 0 35 ∷ lineB 1 ∷ lineW 1 r v ∷ li
 unfoldable pub lockedOut : List Line
 lockedOut = again ++ lineB 1 ∷ lineK 1 3 ∷ []
 
--- a transaction that read slot 1 when its xmin was 9, which it no longer is (no replay leads here)
+-- a transaction that read slot 1 when its xmin was 9, which it no longer is (forged: in a replay recovery alone frees a slot that was on a
+-- chain, and it ends every transaction)
 unfoldable pub reused : Desk
 reused =
     let d = morning start (done ++ lineB 0 ∷ []) .desk in
