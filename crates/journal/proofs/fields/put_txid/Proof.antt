@@ -1,0 +1,23 @@
+-- `put_txid` meets its contract.
+use borrow.Author.Tests.{lt-ltb, le-ltb}
+use Rattle.journal.specs.Fields.{setWithin}
+use borrow.Author.Needs.{needs}
+use Rattle.journal.proofs.fields.put_txid.Statement.{statement}
+use Rattle.journal.proofs.fields.put_txid.Tie as tie
+
+mul-x : tie.Need-mul-x
+mul-x c = search needs
+
+element-write-x : tie.Need-element-write-x
+element-write-x c = search needs
+
+returns : tie.Need-returns
+unfolding setWithin
+returns c = simp (lt-ltb _ _ (c .if1 .taken))
+
+returns-2 : tie.Need-returns-2
+unfolding setWithin
+returns-2 c = simp (le-ltb _ _ (c .if1 .left))
+
+pub put-txid-spec : {M : Type 1} → statement M
+put-txid-spec = tie.close (tie.spec mul-x element-write-x returns returns-2)

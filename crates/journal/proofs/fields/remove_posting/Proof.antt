@@ -1,0 +1,13 @@
+-- `remove_posting` meets its contract: the array has its length.
+use borrow.Author.Needs.{needs}
+use Rattle.journal.proofs.fields.remove_posting.Statement.{statement}
+use Rattle.journal.proofs.fields.remove_posting.Tie as tie
+
+remove-requires : tie.Need-remove-requires
+remove-requires c κs = search needs
+
+returns : tie.Need-returns
+returns c = rw (← (c .before .before .pre)) (c .remove .ensures)
+
+pub remove-posting-spec : {M : Type 1} → statement M
+remove-posting-spec = tie.close (tie.spec remove-requires returns)

@@ -1,0 +1,86 @@
+-- `remove` meets its contract: the numbers kept, and those to come without v, stay the same list.
+use mathlib.Core.Path.{_≡_, ap, _∙_}
+use mathlib.Core.List.{_++_}
+use Prim.Native.Nat.{_-_, _≤_}
+use native.Mathlib.Omega.{arith}
+use lib.ListN.{length, length-set, take}
+use lib.Seq.{slice}
+use Rattle.rules.specs.Lists.{without}
+use Rattle.journal.specs.Packed.{packed-first, take-within}
+use Rattle.journal.specs.Remove.{keep-turn, skip-turn, removed}
+use borrow.Author.Needs.{needs}
+use Rattle.journal.proofs.packed.remove.Statement.{statement}
+use Rattle.journal.proofs.packed.remove.Tie as tie
+
+abbrev Inv-loop : tie.InvT-loop
+Inv-loop x₀ n v m kept₀ i₀ x kept i = (kept ≤ i) × (i ≤ m) × (length x ≡ length x₀) × (take kept x ++ without v (slice i m x) ≡ without v (take m x₀))
+
+abbrev μ-loop : tie.MeasureT-loop
+μ-loop x₀ n v m kept₀ i₀ x kept i = m - i
+
+within-requires : tie.Need-within-requires Inv-loop μ-loop
+within-requires c κs = search needs
+
+loop-holds : tie.Need-loop-holds Inv-loop μ-loop
+loop-holds c = search needs
+
+mul-y : tie.Need-mul-y Inv-loop μ-loop
+mul-y c = search needs
+
+slice-read-y : tie.Need-slice-read-y Inv-loop μ-loop
+slice-read-y c = search needs
+
+add-i : tie.Need-add-i Inv-loop μ-loop
+add-i c = search needs
+
+mul-x : tie.Need-mul-x Inv-loop μ-loop
+mul-x c = search needs
+
+slice-write-x : tie.Need-slice-write-x Inv-loop μ-loop
+slice-write-x c = search needs
+
+add-kept : tie.Need-add-kept Inv-loop μ-loop
+add-kept c = search needs
+
+loop-less : tie.Need-loop-less Inv-loop μ-loop
+loop-less c = search needs
+
+loop-again : tie.Need-loop-again Inv-loop μ-loop
+loop-again c = let a = c .before .before .before in (omega arith, omega arith, simp length-set (a .loop .inv .2), keep-turn (a .before .before .before .args .v) (a .loop .x) (a .loop .kept) (a .loop .i) (a .before .within .result) (omega arith) (omega arith) (omega arith) (c .if1 .taken) ∙ a .loop .inv .3)
+
+loop-less-2 : tie.Need-loop-less-2 Inv-loop μ-loop
+loop-less-2 c = search needs
+
+loop-again-2 : tie.Need-loop-again-2 Inv-loop μ-loop
+loop-again-2 c = let a = c .before .before .before in (omega arith, omega arith, a .loop .inv .2, skip-turn (a .before .before .before .args .v) (a .loop .x) (a .loop .kept) (a .loop .i) (a .before .within .result) (omega arith) (omega arith) (omega arith) (c .if1 .left) ∙ a .loop .inv .3)
+
+clear-requires : tie.Need-clear-requires Inv-loop μ-loop
+clear-requires c κs = search needs
+
+same-length : tie.Need-same-length Inv-loop μ-loop
+same-length c = c .before .before .clear .kept .0 ∙ c .before .before .before .before .before .loop .inv .2
+
+returns : tie.Need-returns Inv-loop μ-loop
+returns c = let a = c .before .before .before .before .before in let s = a .before .before .before .args in packed-first _ (a .loop .x) (a .loop .kept) _ (removed (s .v) (a .loop .x) (a .loop .kept) (a .loop .i) (a .before .within .result) (omega arith) (a .loop .inv .3) ∙ ap (without (s .v)) (take-within (s .n) (a .before .within .result) (s .x .now) (a .before .within .ensures))) (omega arith) (a .loop .inv .2) (c .before .before .clear .ensures)
+
+pub remove-spec : {M : Type 1} → statement M
+remove-spec =
+    tie.close
+    (tie.spec
+    Inv-loop
+    μ-loop
+    within-requires
+    loop-holds
+    mul-y
+    slice-read-y
+    add-i
+    mul-x
+    slice-write-x
+    add-kept
+    loop-less
+    loop-again
+    loop-less-2
+    loop-again-2
+    clear-requires
+    same-length
+    returns)

@@ -1,0 +1,140 @@
+// The journal: the puts that a call plans, two words each in a lent array, and the one pass that applies them to a store.
+
+ghost use mathlib.Core.Path.{_≡_};
+ghost use Prim.Native.Nat.{min};
+ghost use Rattle.rules.specs.Puts.{put, applyAll};
+ghost use Rattle.journal.specs.Journal.{Pushed, puts, putLimit};
+
+mod fields;
+pub mod packed;
+
+use types::Store;
+
+pub struct Journal;
+
+impl Journal {
+    // A commit makes at most 64 guard puts, 32 posting puts, 32 puts of publication, 256 frees, 16 stamps, one poison and one drop: 402.
+    pub const PUTS: usize = 512;
+
+    // the first word of a put is its kind and place, the second its value
+    pub const WORDS: usize = 2 * Journal::PUTS;
+
+    // the first word is kind * PLACE_BASE + place; every place of a store's array is below
+    pub const PLACE_BASE: u64 = 1024;
+
+    // heads, next pointers and keys take the low 32 bits of a value
+    pub const LOW_BASE: u64 = 4294967296;
+}
+
+// The kinds of puts, with the numbers that the definitions give them.
+pub struct Kind;
+
+impl Kind {
+    pub const STRIPE: u64 = 1;
+
+    pub const PARTITION: u64 = 2;
+
+    pub const INSERT: u64 = 3;
+
+    pub const REMOVE: u64 = 4;
+
+    pub const XMAX: u64 = 5;
+
+    pub const HEAD: u64 = 6;
+
+    pub const FREE: u64 = 7;
+
+    pub const DROP: u64 = 8;
+
+    pub const STAMP: u64 = 9;
+
+    pub const POISON: u64 = 10;
+
+    pub const DOOM: u64 = 11;
+
+    pub const ENTER: u64 = 12;
+
+    pub const CLOCK: u64 = 13;
+
+    pub const XMIN: u64 = 14;
+
+    pub const NEXT: u64 = 15;
+
+    pub const KEY: u64 = 16;
+
+    pub const LOCK: u64 = 17;
+}
+
+// Puts one more into a journal of n puts and answers their new number; a full journal, a kind that is none and a place too high change nothing.
+pub fn push(j: &mut [u64; Journal::WORDS], n: usize, kind: u64, at: usize, val: u64) -> usize
+    ensures { λ r. ⌜ Pushed (now (j .entry)) n (put kind at val) (now (j .exit)) r ⌝ }
+{
+    if Journal::PUTS <= n {
+        return n;
+    }
+    if Kind::LOCK < kind {
+        return n;
+    }
+    let place = at as u64;
+    if Journal::PLACE_BASE <= place {
+        return n;
+    }
+    j[n + n] = kind * Journal::PLACE_BASE + place;
+    j[n + n + 1] = val;
+    n + 1
+}
+
+// The first n puts of the journal, one after the other; no more than it has room for.
+pub fn apply(s: Store, j: &[u64; Journal::WORDS], n: usize) -> Store
+    ensures { λ r. ⌜ r ≡ applyAll (puts (now (j .entry)) (min n putLimit)) s ⌝ }
+{
+    let end = packed::within(n, Journal::PUTS);
+    let mut t = s;
+    let mut i: usize = 0;
+    while i < end {
+        let word = j[i + i];
+        let v = j[i + i + 1];
+        i += 1;
+        let at = (word % Journal::PLACE_BASE) as usize;
+        let low = (v % Journal::LOW_BASE) as u32;
+        let count = t.posting_count;
+        match word / Journal::PLACE_BASE {
+            Kind::STRIPE => fields::put_stripe(&mut t.stripe_guards, at, v),
+            Kind::PARTITION => fields::put_partition(&mut t.partition_guards, at, v),
+            Kind::INSERT => t.posting_count = fields::insert_posting(&mut t.postings, count, v),
+            Kind::REMOVE => t.posting_count = fields::remove_posting(&mut t.postings, count, v),
+            Kind::XMAX => fields::put_txid(&mut t.xmax, at, v),
+            Kind::HEAD => fields::put_head(&mut t.heads, at, low),
+            Kind::FREE => {
+                fields::put_txid(&mut t.xmin, at, 0);
+                fields::put_txid(&mut t.xmax, at, 0);
+                fields::put_number(&mut t.next, at, 0);
+                fields::put_number(&mut t.key, at, 0);
+                fields::put_flag(&mut t.has, at, false);
+                fields::put_flag(&mut t.locked, at, false);
+                fields::put_txid(&mut t.owner, at, 0);
+            }
+            Kind::DROP => fields::leave_active(&mut t.active, v),
+            Kind::STAMP => fields::put_stripe(&mut t.stamps, at, v),
+            Kind::POISON => t.poisoned = true,
+            Kind::DOOM => {
+                t.poisoned = true;
+                t.doomed = v;
+            }
+            Kind::ENTER => fields::enter_active(&mut t.active, v),
+            Kind::CLOCK => t.clock = v,
+            Kind::XMIN => fields::put_txid(&mut t.xmin, at, v),
+            Kind::NEXT => fields::put_number(&mut t.next, at, low),
+            Kind::KEY => {
+                fields::put_number(&mut t.key, at, low);
+                fields::put_flag(&mut t.has, at, true);
+            }
+            Kind::LOCK => {
+                fields::put_txid(&mut t.owner, at, v);
+                fields::put_flag(&mut t.locked, at, true);
+            }
+            _ => {}
+        }
+    }
+    t
+}
