@@ -1,11 +1,10 @@
 -- Puts added to a journal, one block after the other, whatever it held before.
-use mathlib.Core.Path.{_≡_}
 use mathlib.Core.List.{List, [], _∷_, _++_, append-assoc, append-nil}
 use Prim.Native.Nat.{ℕ, _+_, _≤_}
 use native.Mathlib.Omega.{arith}
 use lib.ListN.{length, length-append}
 use Rattle.rules.specs.Puts.{Put}
-use Rattle.journal.specs.Journal.{putLimit, wordLimit, Pushed, Kept, Holds}
+use Rattle.journal.specs.Journal.{putLimit, Pushed, Kept, Holds}
 use Rattle.journal.specs.Holds.{holds-none, holds-count, holds-push}
 
 -- a journal j of n puts, with these puts behind them, is `after` with r puts, if there is room
@@ -31,5 +30,5 @@ adds-then {j} {j′} {after} {n} {m} {r} {ps} {qs} a b = record { onto = go }
         rw (← (append-assoc os ps qs)) (b .onto (os ++ ps) first (omega arith))
 
 -- all that a journal holds that was empty
-pub adds-all : {j after : List ℕ} {r : ℕ} {ps : List Put} → Adds j 0 ps after r → length j ≡ wordLimit → length ps ≤ putLimit → Holds after r ps
-adds-all a e l = a .onto [] (holds-none e) (omega arith)
+pub adds-all : {j after : List ℕ} {r : ℕ} {ps : List Put} → Adds j 0 ps after r → length ps ≤ putLimit → Holds after r ps
+adds-all {j} a l = a .onto [] (holds-none j) (omega arith)

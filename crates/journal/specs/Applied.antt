@@ -9,6 +9,48 @@ use Rattle.rules.specs.Types.{Store}
 use Rattle.rules.specs.Puts.{Put, kStripe, kPartition, kInsert, kRemove, kXmax, kHead, kFree, kDrop, kStamp, kPoison, kDoom, kEnter, kClock, kXmin, kNext, kKey, kLock, apply, applyAll}
 use Rattle.journal.specs.Journal.{putLimit, putAt, puts, Holds}
 
+-- stores with the same fields are the same
+pub same-store : {S T : Store}
+    → S .heads ≡ T .heads
+    → S .xmin ≡ T .xmin
+    → S .xmax ≡ T .xmax
+    → S .next ≡ T .next
+    → S .key ≡ T .key
+    → S .has ≡ T .has
+    → S .locked ≡ T .locked
+    → S .owner ≡ T .owner
+    → S .postings ≡ T .postings
+    → S .«posting_count» ≡ T .«posting_count»
+    → S .«stripe_guards» ≡ T .«stripe_guards»
+    → S .«partition_guards» ≡ T .«partition_guards»
+    → S .stamps ≡ T .stamps
+    → S .active ≡ T .active
+    → S .clock ≡ T .clock
+    → S .poisoned ≡ T .poisoned
+    → S .doomed ≡ T .doomed
+    → S .bound ≡ T .bound
+    → S ≡ T
+same-store heads xmin xmax next key has locked owner postings count stripes partitions stamps active clock poisoned doomed bound = λ i. record {
+  heads = heads i;
+  xmin = xmin i;
+  xmax = xmax i;
+  next = next i;
+  key = key i;
+  has = has i;
+  locked = locked i;
+  owner = owner i;
+  postings = postings i;
+  «posting_count» = count i;
+  «stripe_guards» = stripes i;
+  «partition_guards» = partitions i;
+  stamps = stamps i;
+  active = active i;
+  clock = clock i;
+  poisoned = poisoned i;
+  doomed = doomed i;
+  bound = bound i;
+}
+
 -- puts one after the other
 pub apply-append : (ps qs : List Put) (S : Store) → applyAll (ps ++ qs) S ≡ applyAll qs (applyAll ps S)
 apply-append [] qs S = refl
@@ -39,4 +81,22 @@ kinds = kLock ∷ kKey ∷ kNext ∷ kXmin ∷ kClock ∷ kEnter ∷ kDoom ∷ k
 -- a put whose kind is none changes nothing
 pub apply-other : (p : Put) (S : Store) → NoneOf (p .kind) kinds → S ≡ apply p S
 apply-other p S n =
-    simp (ne-eqb (p .kind) kLock (n .1), ne-eqb (p .kind) kKey (n .0 .1), ne-eqb (p .kind) kNext (n .0 .0 .1), ne-eqb (p .kind) kXmin (n .0 .0 .0 .1), ne-eqb (p .kind) kClock (n .0 .0 .0 .0 .1), ne-eqb (p .kind) kEnter (n .0 .0 .0 .0 .0 .1), ne-eqb (p .kind) kDoom (n .0 .0 .0 .0 .0 .0 .1), ne-eqb (p .kind) kPoison (n .0 .0 .0 .0 .0 .0 .0 .1), ne-eqb (p .kind) kStamp (n .0 .0 .0 .0 .0 .0 .0 .0 .1), ne-eqb (p .kind) kDrop (n .0 .0 .0 .0 .0 .0 .0 .0 .0 .1), ne-eqb (p .kind) kFree (n .0 .0 .0 .0 .0 .0 .0 .0 .0 .0 .1), ne-eqb (p .kind) kHead (n .0 .0 .0 .0 .0 .0 .0 .0 .0 .0 .0 .1), ne-eqb (p .kind) kXmax (n .0 .0 .0 .0 .0 .0 .0 .0 .0 .0 .0 .0 .1), ne-eqb (p .kind) kRemove (n .0 .0 .0 .0 .0 .0 .0 .0 .0 .0 .0 .0 .0 .1), ne-eqb (p .kind) kInsert (n .0 .0 .0 .0 .0 .0 .0 .0 .0 .0 .0 .0 .0 .0 .1), ne-eqb (p .kind) kPartition (n .0 .0 .0 .0 .0 .0 .0 .0 .0 .0 .0 .0 .0 .0 .0 .1), ne-eqb (p .kind) kStripe (n .0 .0 .0 .0 .0 .0 .0 .0 .0 .0 .0 .0 .0 .0 .0 .0 .1))
+    simp (
+      ne-eqb (p .kind) kLock (n .1),
+      ne-eqb (p .kind) kKey (n .0 .1),
+      ne-eqb (p .kind) kNext (n .0 .0 .1),
+      ne-eqb (p .kind) kXmin (n .0 .0 .0 .1),
+      ne-eqb (p .kind) kClock (n .0 .0 .0 .0 .1),
+      ne-eqb (p .kind) kEnter (n .0 .0 .0 .0 .0 .1),
+      ne-eqb (p .kind) kDoom (n .0 .0 .0 .0 .0 .0 .1),
+      ne-eqb (p .kind) kPoison (n .0 .0 .0 .0 .0 .0 .0 .1),
+      ne-eqb (p .kind) kStamp (n .0 .0 .0 .0 .0 .0 .0 .0 .1),
+      ne-eqb (p .kind) kDrop (n .0 .0 .0 .0 .0 .0 .0 .0 .0 .1),
+      ne-eqb (p .kind) kFree (n .0 .0 .0 .0 .0 .0 .0 .0 .0 .0 .1),
+      ne-eqb (p .kind) kHead (n .0 .0 .0 .0 .0 .0 .0 .0 .0 .0 .0 .1),
+      ne-eqb (p .kind) kXmax (n .0 .0 .0 .0 .0 .0 .0 .0 .0 .0 .0 .0 .1),
+      ne-eqb (p .kind) kRemove (n .0 .0 .0 .0 .0 .0 .0 .0 .0 .0 .0 .0 .0 .1),
+      ne-eqb (p .kind) kInsert (n .0 .0 .0 .0 .0 .0 .0 .0 .0 .0 .0 .0 .0 .0 .1),
+      ne-eqb (p .kind) kPartition (n .0 .0 .0 .0 .0 .0 .0 .0 .0 .0 .0 .0 .0 .0 .0 .1),
+      ne-eqb (p .kind) kStripe (n .0 .0 .0 .0 .0 .0 .0 .0 .0 .0 .0 .0 .0 .0 .0 .0 .1),
+    )

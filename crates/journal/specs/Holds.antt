@@ -7,12 +7,21 @@ use Prim.Native.Nat.{ℕ, zero, suc, _+_, _*_, _/_, _%_, _≤_, _<_}
 use native.Mathlib.Nat.{mod-eq-of-lt, eq-or-lt-of-le, le-of-eq}
 use native.Mathlib.Numerals.{add-one}
 use native.Mathlib.Omega.{arith}
-use lib.ListN.{length, getD, set, take, replicate, length-set, length-append, length-replicate}
+use lib.ListN.{length, getD, set, take, length-set, length-append}
 use lib.Seq.{getD-set-same, getD-set-other, take-append-le, take-all}
 use borrow.Author.Tests.{lt-ltb, le-leb}
 use Rattle.types.specs.Limits.{keyEnd}
 use Rattle.rules.specs.Puts.{Put, kLock}
 use Rattle.journal.specs.Journal.{putLimit, wordLimit, placeBase, narrow, putOf, putAt, puts, takes, pushed, counted, Pushed, Kept, Holds}
+
+-- a put that the journal does not take changes nothing, and one that it takes stands in its two words
+pub push-refused : (j : List ℕ) (n : ℕ) (p : Put) → takes n p ≡ false → Pushed j n p j n
+unfolding pushed counted
+push-refused j n p f = record { words = rw f; count = rw f; long = λ t. let z : _≡_ {A = ℕ} 0 1 = cc in absurd (omega arith) }
+
+pub push-taken : (j after : List ℕ) (n : ℕ) (p : Put) → takes n p ≡ true → length j ≡ wordLimit → after ≡ set (set j (n + n) (p .kind * placeBase + p .at)) (n + n + 1) (p .val) → Pushed j n p after (n + 1)
+unfolding pushed counted
+push-taken j after n p t l e = record { words = rw t e; count = rw t; long = λ _. l }
 
 -- a put is kept if its field has 64 bits, or its value has 32
 pub kept-wide : (p : Put) → p .kind ≤ kLock → p .at < placeBase → narrow (p .kind) ≡ false → Kept p
@@ -47,13 +56,10 @@ unfolding puts
 puts-long j zero = refl
 puts-long j (suc n) = simp (length-append, puts-long j n) (omega arith)
 
--- a journal of no puts, and one that was just made
-pub holds-none : {j : List ℕ} → length j ≡ wordLimit → Holds j 0 []
+-- no puts yet
+pub holds-none : (j : List ℕ) → Holds j 0 []
 unfolding puts
-holds-none l = record { room = omega arith; long = l; are = refl }
-
-pub holds-fresh : Holds (replicate wordLimit 0) 0 []
-holds-fresh = holds-none (length-replicate {A = ℕ} wordLimit 0)
+holds-none j = record { room = omega arith; are = refl }
 
 -- as many as are counted
 pub holds-count : {j : List ℕ} {n : ℕ} {ps : List Put} → Holds j n ps → n ≡ length ps
@@ -69,11 +75,10 @@ holds-push {j} {after} {n} {r} {p} {ps} h l k e =
     let c : r ≡ suc n = rw yes at (e .count) ∙ add-one n in
     let s : after ≡ set j′ (n + n + 1) (p .val) = rw yes at (e .words) in
     let a : getD (set j′ (n + n + 1) (p .val)) (n + n) 0 ≡ w
-    = getD-set-other j′ (n + n + 1) (n + n) (p .val) 0 (λ q. omega arith) ∙ getD-set-same j (n + n) w 0 (omega (arith, h .long)) in
-    let b : getD (set j′ (n + n + 1) (p .val)) (n + n + 1) 0 ≡ p .val = getD-set-same j′ (n + n + 1) (p .val) 0 (rw length-set (omega (arith, h .long))) in
+    = getD-set-other j′ (n + n + 1) (n + n) (p .val) 0 (λ q. omega arith) ∙ getD-set-same j (n + n) w 0 (omega (arith, e .long yes)) in
+    let b : getD (set j′ (n + n + 1) (p .val)) (n + n + 1) 0 ≡ p .val = getD-set-same j′ (n + n + 1) (p .val) 0 (rw length-set (omega (arith, e .long yes))) in
     record {
       room = omega arith;
-      long = ap length s ∙ simp length-set (h .long);
       are = rw (c, s, a, b, puts-past j′ n (n + n + 1) (p .val) (omega arith), puts-past j n (n + n) w (omega arith), put-back p k, h .are);
     }
 
@@ -89,4 +94,4 @@ puts-cut j m (suc n) l = ⊎-elim
 -- a journal cut at a smaller number holds the puts cut there
 pub holds-cut : {j : List ℕ} {n : ℕ} {ps : List Put} (m : ℕ) → Holds j n ps → m ≤ n → Holds j m (take m ps)
 holds-cut {j} {n} {ps} m h l =
-    record { room = omega (arith, h .room); long = h .long; are = sym (puts-cut j m n l) ∙ ap (take m) (h .are) }
+    record { room = omega (arith, h .room); are = sym (puts-cut j m n l) ∙ ap (take m) (h .are) }

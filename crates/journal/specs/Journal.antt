@@ -1,6 +1,6 @@
 -- The journal: its words as puts, what pushing a put does, and what it holds.
 use mathlib.Core.Path.{_≡_}
-use mathlib.Core.Bool.{Bool, cond, _&&_, _||_}
+use mathlib.Core.Bool.{Bool, true, cond, _&&_, _||_}
 use mathlib.Core.List.{List, [], _∷_, _++_}
 use Prim.Native.Nat.{ℕ, zero, suc, _+_, _*_, _/_, _%_, _≤_, _<_}
 use lib.ListN.{length, getD, set}
@@ -47,10 +47,11 @@ pushed j n p = cond (takes n p) (set (set j (n + n) (p .kind * placeBase + p .at
 unfoldable pub counted : ℕ → Put → ℕ
 counted n p = cond (takes n p) (n + 1) n
 
--- what pushing leaves: the words and their number
+-- what pushing leaves: the words and their number; the journal is as long as its type says
 pub record Pushed (j : List ℕ) (n : ℕ) (p : Put) (after : List ℕ) (r : ℕ) : Type 0 where
   pub words : after ≡ pushed j n p
   pub count : r ≡ counted n p
+  pub long : takes n p ≡ true → length j ≡ wordLimit
 
 -- the journal keeps a put as it is: its ranges hold, and a 32-bit field's value has 32 bits
 pub record Kept (p : Put) : Type 0 where
@@ -61,5 +62,4 @@ pub record Kept (p : Put) : Type 0 where
 -- the journal holds these puts
 pub record Holds (j : List ℕ) (n : ℕ) (ps : List Put) : Type 0 where
   pub room : n ≤ putLimit
-  pub long : length j ≡ wordLimit
   pub are : puts j n ≡ ps

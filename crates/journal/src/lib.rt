@@ -1,7 +1,8 @@
 // The journal: the puts that a call plans, two words each in a lent array, and the one pass that applies them to a store.
 
 ghost use mathlib.Core.Path.{_≡_};
-ghost use Prim.Native.Nat.{min};
+ghost use Prim.Native.Nat.{_+_, _<_, min};
+ghost use lib.ListN.{length, set};
 ghost use Rattle.rules.specs.Puts.{put, applyAll};
 ghost use Rattle.journal.specs.Journal.{Pushed, puts, putLimit};
 
@@ -65,6 +66,15 @@ impl Kind {
     pub const LOCK: u64 = 17;
 }
 
+// The two words of a put, from place i on.
+fn write(x: &mut [u64], i: usize, word: u64, val: u64)
+    requires { ⌜ i + 1 < length (now x) ⌝ }
+    ensures { λ _. ⌜ now (x .exit) ≡ set (set (now (x .entry)) i word) (i + 1) val ⌝ }
+{
+    x[i] = word;
+    x[i + 1] = val;
+}
+
 // Puts one more into a journal of n puts and answers their new number; a full journal, a kind that is none and a place too high change nothing.
 pub fn push(j: &mut [u64; Journal::WORDS], n: usize, kind: u64, at: usize, val: u64) -> usize
     ensures { λ r. ⌜ Pushed (now (j .entry)) n (put kind at val) (now (j .exit)) r ⌝ }
@@ -79,8 +89,7 @@ pub fn push(j: &mut [u64; Journal::WORDS], n: usize, kind: u64, at: usize, val: 
     if Journal::PLACE_BASE <= place {
         return n;
     }
-    j[n + n] = kind * Journal::PLACE_BASE + place;
-    j[n + n + 1] = val;
+    write(j, n + n, kind * Journal::PLACE_BASE + place, val);
     n + 1
 }
 

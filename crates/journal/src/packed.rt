@@ -9,6 +9,7 @@ ghost use Rattle.rules.specs.Lists.{into, without, pad, beforeZero};
 ghost use Rattle.journal.specs.Packed.{Packed};
 ghost use Rattle.journal.specs.Insert.{ahead};
 
+// The smaller of the two.
 pub fn within(n: usize, limit: usize) -> usize
     ensures { λ r. ⌜ r ≡ min n limit ⌝ }
 {

@@ -8,10 +8,7 @@ use Rattle.rules.specs.Types.{Store}
 use Rattle.rules.specs.Puts.{put, apply, applyAll}
 use Rattle.journal.specs.Journal.{putLimit, placeBase, low, putAt, puts}
 use Rattle.rules.specs.Store.{postingsOf}
-use Rattle.journal.specs.Applied.{apply-none, apply-more, apply-other}
-use Rattle.journal.specs.Fields.{set-within, same-store}
-use Rattle.journal.specs.Whole.{Whole, whole-all}
-use Rattle.journal.proofs.Laws.{whole-given}
+use Rattle.journal.specs.Applied.{same-store, apply-none, apply-more, apply-other}
 use borrow.Author.Needs.{needs}
 use Rattle.journal.proofs.apply.Statement.{statement}
 use Rattle.journal.proofs.apply.Tie as tie
@@ -21,10 +18,6 @@ Inv-loop j n end t₀ i₀ t i = (i ≤ end) × (t ≡ applyAll (puts j i) t₀)
 
 abbrev μ-loop : tie.MeasureT-loop
 μ-loop j n end t₀ i₀ t i = end - i
-
--- the store in a turn has whole arrays
-whole : (c : tie.At-loop Inv-loop μ-loop) → Whole (c .loop .t)
-whole c = let s = c .before .before in rw (c .loop .inv .1) (whole-all (puts (s .args .j .now) (c .loop .i)) _ (whole-given (s .args .s) (s .good .0)))
 
 -- what the turn reads
 abbrev puts-of : tie.At-loop Inv-loop μ-loop → List ℕ
@@ -80,8 +73,9 @@ put-stripe-requires c κs = search needs
 loop-less : tie.Need-loop-less Inv-loop μ-loop
 loop-less c = search needs
 
+-- stripe guard
 loop-again : tie.Need-loop-again Inv-loop μ-loop
-loop-again c = turn-of (c .before .before .before .before .before) _ (c .before .before .match .keys1) (same-store refl refl refl refl refl refl refl refl refl refl (set-within _ _ _ (whole (c .before .before .before .before .before .before) .stripe-guards) (c .put-stripe .ensures)) refl refl refl refl refl refl refl)
+loop-again c = let m = c .before .before in turn-of (m .before .before .before) _ (m .match .keys1) (same-store refl refl refl refl refl refl refl refl refl refl (c .put-stripe .ensures) refl refl refl refl refl refl refl)
 
 put-partition-requires : tie.Need-put-partition-requires Inv-loop μ-loop
 put-partition-requires c κs = search needs
@@ -89,28 +83,31 @@ put-partition-requires c κs = search needs
 loop-less-2 : tie.Need-loop-less-2 Inv-loop μ-loop
 loop-less-2 c = search needs
 
+-- partition guard
 loop-again-2 : tie.Need-loop-again-2 Inv-loop μ-loop
-loop-again-2 c = turn-of (c .before .before .before .before .before) _ (c .before .before .match .keys2) (same-store refl refl refl refl refl refl refl refl refl refl refl (set-within _ _ _ (whole (c .before .before .before .before .before .before) .partition-guards) (c .put-partition .ensures)) refl refl refl refl refl refl)
+loop-again-2 c = let m = c .before .before in turn-of (m .before .before .before) _ (m .match .keys2) (same-store refl refl refl refl refl refl refl refl refl refl refl (c .put-partition .ensures) refl refl refl refl refl refl)
 
 insert-posting-requires : tie.Need-insert-posting-requires Inv-loop μ-loop
-insert-posting-requires c κs = whole (c .before .before .before .before .before) .postings
+insert-posting-requires c κs = search needs
 
 loop-less-3 : tie.Need-loop-less-3 Inv-loop μ-loop
 loop-less-3 c = search needs
 
+-- insert
 loop-again-3 : tie.Need-loop-again-3 Inv-loop μ-loop
 unfolding postingsOf
-loop-again-3 c = turn-of (c .before .before .before .before .before) _ (c .before .before .match .keys3) (same-store refl refl refl refl refl refl refl refl (c .insert-posting .ensures .at) (c .insert-posting .ensures .count) refl refl refl refl refl refl refl refl)
+loop-again-3 c = let m = c .before .before in turn-of (m .before .before .before) _ (m .match .keys3) (same-store refl refl refl refl refl refl refl refl (c .insert-posting .ensures .at) (c .insert-posting .ensures .count) refl refl refl refl refl refl refl refl)
 
 remove-posting-requires : tie.Need-remove-posting-requires Inv-loop μ-loop
-remove-posting-requires c κs = whole (c .before .before .before .before .before) .postings
+remove-posting-requires c κs = search needs
 
 loop-less-4 : tie.Need-loop-less-4 Inv-loop μ-loop
 loop-less-4 c = search needs
 
+-- remove
 loop-again-4 : tie.Need-loop-again-4 Inv-loop μ-loop
 unfolding postingsOf
-loop-again-4 c = turn-of (c .before .before .before .before .before) _ (c .before .before .match .keys4) (same-store refl refl refl refl refl refl refl refl (c .remove-posting .ensures .at) (c .remove-posting .ensures .count) refl refl refl refl refl refl refl refl)
+loop-again-4 c = let m = c .before .before in turn-of (m .before .before .before) _ (m .match .keys4) (same-store refl refl refl refl refl refl refl refl (c .remove-posting .ensures .at) (c .remove-posting .ensures .count) refl refl refl refl refl refl refl refl)
 
 put-txid-requires : tie.Need-put-txid-requires Inv-loop μ-loop
 put-txid-requires c κs = search needs
@@ -118,8 +115,9 @@ put-txid-requires c κs = search needs
 loop-less-5 : tie.Need-loop-less-5 Inv-loop μ-loop
 loop-less-5 c = search needs
 
+-- xmax
 loop-again-5 : tie.Need-loop-again-5 Inv-loop μ-loop
-loop-again-5 c = turn-of (c .before .before .before .before .before) _ (c .before .before .match .keys5) (same-store refl refl (set-within _ _ _ (whole (c .before .before .before .before .before .before) .xmax) (c .put-txid .ensures)) refl refl refl refl refl refl refl refl refl refl refl refl refl refl refl)
+loop-again-5 c = let m = c .before .before in turn-of (m .before .before .before) _ (m .match .keys5) (same-store refl refl (c .put-txid .ensures) refl refl refl refl refl refl refl refl refl refl refl refl refl refl refl)
 
 put-head-requires : tie.Need-put-head-requires Inv-loop μ-loop
 put-head-requires c κs = search needs
@@ -127,8 +125,9 @@ put-head-requires c κs = search needs
 loop-less-6 : tie.Need-loop-less-6 Inv-loop μ-loop
 loop-less-6 c = search needs
 
+-- head
 loop-again-6 : tie.Need-loop-again-6 Inv-loop μ-loop
-loop-again-6 c = turn-of (c .before .before .before .before .before) _ (c .before .before .match .keys6) (same-store (set-within _ _ _ (whole (c .before .before .before .before .before .before) .heads) (c .put-head .ensures)) refl refl refl refl refl refl refl refl refl refl refl refl refl refl refl refl refl)
+loop-again-6 c = let m = c .before .before in turn-of (m .before .before .before) _ (m .match .keys6) (same-store (c .put-head .ensures) refl refl refl refl refl refl refl refl refl refl refl refl refl refl refl refl refl)
 
 put-txid-requires-2 : tie.Need-put-txid-requires-2 Inv-loop μ-loop
 put-txid-requires-2 c κs = search needs
@@ -154,17 +153,19 @@ put-txid-requires-4 c κs = search needs
 loop-less-7 : tie.Need-loop-less-7 Inv-loop μ-loop
 loop-less-7 c = search needs
 
+-- free
 loop-again-7 : tie.Need-loop-again-7 Inv-loop μ-loop
-loop-again-7 c = turn-of (c .before .before .before .before .before .before .before .before .before .before .before .before .before .before .before .before .before) _ (c .before .before .before .before .before .before .before .before .before .before .before .before .before .before .match .keys7) (same-store refl (set-within _ _ _ (whole (c .before .before .before .before .before .before .before .before .before .before .before .before .before .before .before .before .before .before) .xmin) (c .before .before .before .before .before .before .before .before .before .before .before .before .put-txid2 .ensures)) (set-within _ _ _ (whole (c .before .before .before .before .before .before .before .before .before .before .before .before .before .before .before .before .before .before) .xmax) (c .before .before .before .before .before .before .before .before .before .before .put-txid3 .ensures)) (set-within _ _ _ (whole (c .before .before .before .before .before .before .before .before .before .before .before .before .before .before .before .before .before .before) .next) (c .before .before .before .before .before .before .before .before .put-number .ensures)) (set-within _ _ _ (whole (c .before .before .before .before .before .before .before .before .before .before .before .before .before .before .before .before .before .before) .key) (c .before .before .before .before .before .before .put-number2 .ensures)) (set-within _ _ _ (whole (c .before .before .before .before .before .before .before .before .before .before .before .before .before .before .before .before .before .before) .has) (c .before .before .before .before .put-flag .ensures)) (set-within _ _ _ (whole (c .before .before .before .before .before .before .before .before .before .before .before .before .before .before .before .before .before .before) .locked) (c .before .before .put-flag2 .ensures)) (set-within _ _ _ (whole (c .before .before .before .before .before .before .before .before .before .before .before .before .before .before .before .before .before .before) .owner) (c .put-txid4 .ensures)) refl refl refl refl refl refl refl refl refl refl)
+loop-again-7 c = let m = c .before .before .before .before .before .before .before .before .before .before .before .before .before .before in turn-of (m .before .before .before) _ (m .match .keys7) (same-store refl (c .before .before .before .before .before .before .before .before .before .before .before .before .put-txid2 .ensures) (c .before .before .before .before .before .before .before .before .before .before .put-txid3 .ensures) (c .before .before .before .before .before .before .before .before .put-number .ensures) (c .before .before .before .before .before .before .put-number2 .ensures) (c .before .before .before .before .put-flag .ensures) (c .before .before .put-flag2 .ensures) (c .put-txid4 .ensures) refl refl refl refl refl refl refl refl refl refl)
 
 leave-active-requires : tie.Need-leave-active-requires Inv-loop μ-loop
-leave-active-requires c κs = whole (c .before .before .before .before .before) .active
+leave-active-requires c κs = search needs
 
 loop-less-8 : tie.Need-loop-less-8 Inv-loop μ-loop
 loop-less-8 c = search needs
 
+-- drop
 loop-again-8 : tie.Need-loop-again-8 Inv-loop μ-loop
-loop-again-8 c = turn-of (c .before .before .before .before .before) _ (c .before .before .match .keys8) (same-store refl refl refl refl refl refl refl refl refl refl refl refl refl (c .leave-active .ensures) refl refl refl refl)
+loop-again-8 c = let m = c .before .before in turn-of (m .before .before .before) _ (m .match .keys8) (same-store refl refl refl refl refl refl refl refl refl refl refl refl refl (c .leave-active .ensures) refl refl refl refl)
 
 put-stripe-requires-2 : tie.Need-put-stripe-requires-2 Inv-loop μ-loop
 put-stripe-requires-2 c κs = search needs
@@ -172,33 +173,38 @@ put-stripe-requires-2 c κs = search needs
 loop-less-9 : tie.Need-loop-less-9 Inv-loop μ-loop
 loop-less-9 c = search needs
 
+-- stamp
 loop-again-9 : tie.Need-loop-again-9 Inv-loop μ-loop
-loop-again-9 c = turn-of (c .before .before .before .before .before) _ (c .before .before .match .keys9) (same-store refl refl refl refl refl refl refl refl refl refl refl refl (set-within _ _ _ (whole (c .before .before .before .before .before .before) .stamps) (c .put-stripe2 .ensures)) refl refl refl refl refl)
+loop-again-9 c = let m = c .before .before in turn-of (m .before .before .before) _ (m .match .keys9) (same-store refl refl refl refl refl refl refl refl refl refl refl refl (c .put-stripe2 .ensures) refl refl refl refl refl)
 
 loop-less-10 : tie.Need-loop-less-10 Inv-loop μ-loop
 loop-less-10 c = search needs
 
+-- poison
 loop-again-10 : tie.Need-loop-again-10 Inv-loop μ-loop
 loop-again-10 c = turn-of (c .before .before .before) _ (c .match .keys10) refl
 
 loop-less-11 : tie.Need-loop-less-11 Inv-loop μ-loop
 loop-less-11 c = search needs
 
+-- doom
 loop-again-11 : tie.Need-loop-again-11 Inv-loop μ-loop
 loop-again-11 c = turn-of (c .before .before .before) _ (c .match .keys11) refl
 
 enter-active-requires : tie.Need-enter-active-requires Inv-loop μ-loop
-enter-active-requires c κs = whole (c .before .before .before .before .before) .active
+enter-active-requires c κs = search needs
 
 loop-less-12 : tie.Need-loop-less-12 Inv-loop μ-loop
 loop-less-12 c = search needs
 
+-- enter
 loop-again-12 : tie.Need-loop-again-12 Inv-loop μ-loop
-loop-again-12 c = turn-of (c .before .before .before .before .before) _ (c .before .before .match .keys12) (same-store refl refl refl refl refl refl refl refl refl refl refl refl refl (c .enter-active .ensures) refl refl refl refl)
+loop-again-12 c = let m = c .before .before in turn-of (m .before .before .before) _ (m .match .keys12) (same-store refl refl refl refl refl refl refl refl refl refl refl refl refl (c .enter-active .ensures) refl refl refl refl)
 
 loop-less-13 : tie.Need-loop-less-13 Inv-loop μ-loop
 loop-less-13 c = search needs
 
+-- clock
 loop-again-13 : tie.Need-loop-again-13 Inv-loop μ-loop
 loop-again-13 c = turn-of (c .before .before .before) _ (c .match .keys13) refl
 
@@ -208,8 +214,9 @@ put-txid-requires-5 c κs = search needs
 loop-less-14 : tie.Need-loop-less-14 Inv-loop μ-loop
 loop-less-14 c = search needs
 
+-- xmin
 loop-again-14 : tie.Need-loop-again-14 Inv-loop μ-loop
-loop-again-14 c = turn-of (c .before .before .before .before .before) _ (c .before .before .match .keys14) (same-store refl (set-within _ _ _ (whole (c .before .before .before .before .before .before) .xmin) (c .put-txid5 .ensures)) refl refl refl refl refl refl refl refl refl refl refl refl refl refl refl refl)
+loop-again-14 c = let m = c .before .before in turn-of (m .before .before .before) _ (m .match .keys14) (same-store refl (c .put-txid5 .ensures) refl refl refl refl refl refl refl refl refl refl refl refl refl refl refl refl)
 
 put-number-requires-3 : tie.Need-put-number-requires-3 Inv-loop μ-loop
 put-number-requires-3 c κs = search needs
@@ -217,8 +224,9 @@ put-number-requires-3 c κs = search needs
 loop-less-15 : tie.Need-loop-less-15 Inv-loop μ-loop
 loop-less-15 c = search needs
 
+-- next
 loop-again-15 : tie.Need-loop-again-15 Inv-loop μ-loop
-loop-again-15 c = turn-of (c .before .before .before .before .before) _ (c .before .before .match .keys15) (same-store refl refl refl (set-within _ _ _ (whole (c .before .before .before .before .before .before) .next) (c .put-number3 .ensures)) refl refl refl refl refl refl refl refl refl refl refl refl refl refl)
+loop-again-15 c = let m = c .before .before in turn-of (m .before .before .before) _ (m .match .keys15) (same-store refl refl refl (c .put-number3 .ensures) refl refl refl refl refl refl refl refl refl refl refl refl refl refl)
 
 put-number-requires-4 : tie.Need-put-number-requires-4 Inv-loop μ-loop
 put-number-requires-4 c κs = search needs
@@ -229,8 +237,9 @@ put-flag-requires-3 c κs = search needs
 loop-less-16 : tie.Need-loop-less-16 Inv-loop μ-loop
 loop-less-16 c = search needs
 
+-- key
 loop-again-16 : tie.Need-loop-again-16 Inv-loop μ-loop
-loop-again-16 c = turn-of (c .before .before .before .before .before .before .before) _ (c .before .before .before .before .match .keys16) (same-store refl refl refl refl (set-within _ _ _ (whole (c .before .before .before .before .before .before .before .before) .key) (c .before .before .put-number4 .ensures)) (set-within _ _ _ (whole (c .before .before .before .before .before .before .before .before) .has) (c .put-flag3 .ensures)) refl refl refl refl refl refl refl refl refl refl refl refl)
+loop-again-16 c = let m = c .before .before .before .before in turn-of (m .before .before .before) _ (m .match .keys16) (same-store refl refl refl refl (c .before .before .put-number4 .ensures) (c .put-flag3 .ensures) refl refl refl refl refl refl refl refl refl refl refl refl)
 
 put-txid-requires-6 : tie.Need-put-txid-requires-6 Inv-loop μ-loop
 put-txid-requires-6 c κs = search needs
@@ -241,12 +250,14 @@ put-flag-requires-4 c κs = search needs
 loop-less-17 : tie.Need-loop-less-17 Inv-loop μ-loop
 loop-less-17 c = search needs
 
+-- lock
 loop-again-17 : tie.Need-loop-again-17 Inv-loop μ-loop
-loop-again-17 c = turn-of (c .before .before .before .before .before .before .before) _ (c .before .before .before .before .match .keys17) (same-store refl refl refl refl refl refl (set-within _ _ _ (whole (c .before .before .before .before .before .before .before .before) .locked) (c .put-flag4 .ensures)) (set-within _ _ _ (whole (c .before .before .before .before .before .before .before .before) .owner) (c .before .before .put-txid6 .ensures)) refl refl refl refl refl refl refl refl refl refl)
+loop-again-17 c = let m = c .before .before .before .before in turn-of (m .before .before .before) _ (m .match .keys17) (same-store refl refl refl refl refl refl (c .put-flag4 .ensures) (c .before .before .put-txid6 .ensures) refl refl refl refl refl refl refl refl refl refl)
 
 loop-less-18 : tie.Need-loop-less-18 Inv-loop μ-loop
 loop-less-18 c = search needs
 
+-- no kind
 loop-again-18 : tie.Need-loop-again-18 Inv-loop μ-loop
 loop-again-18 c = turn (c .before .before .before) _ (apply-other _ _ (c .match .rest))
 

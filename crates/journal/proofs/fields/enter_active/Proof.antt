@@ -7,7 +7,7 @@ enter-requires : tie.Need-enter-requires
 enter-requires c κs = search needs
 
 returns : tie.Need-returns
-returns c = rw (c .before .before .pre) at (c .enter .ensures)
+returns c = rw (c .before .enter-arg .given .0 .1) at (c .enter .ensures)
 
 pub enter-active-spec : {M : Type 1} → statement M
 enter-active-spec = tie.close (tie.spec enter-requires returns)

@@ -7,7 +7,7 @@ insert-requires : tie.Need-insert-requires
 insert-requires c κs = search needs
 
 returns : tie.Need-returns
-returns c = rw (← (c .before .before .pre)) (c .insert .ensures)
+returns c = rw (← (c .before .insert-arg .given .0 .1)) (c .insert .ensures)
 
 pub insert-posting-spec : {M : Type 1} → statement M
 insert-posting-spec = tie.close (tie.spec insert-requires returns)

@@ -7,7 +7,7 @@ leave-requires : tie.Need-leave-requires
 leave-requires c κs = search needs
 
 returns : tie.Need-returns
-returns c = rw (c .before .before .pre) at (c .leave .ensures)
+returns c = rw (c .before .leave-arg .given .0 .1) at (c .leave .ensures)
 
 pub leave-active-spec : {M : Type 1} → statement M
 leave-active-spec = tie.close (tie.spec leave-requires returns)

@@ -7,7 +7,7 @@ remove-requires : tie.Need-remove-requires
 remove-requires c κs = search needs
 
 returns : tie.Need-returns
-returns c = rw (← (c .before .before .pre)) (c .remove .ensures)
+returns c = rw (← (c .before .remove-arg .given .0 .1)) (c .remove .ensures)
 
 pub remove-posting-spec : {M : Type 1} → statement M
 remove-posting-spec = tie.close (tie.spec remove-requires returns)
