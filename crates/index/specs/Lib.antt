@@ -1,0 +1,30 @@
+-- Laws about lists and tests.
+pub mod Bools
+pub mod All
+pub mod Rising
+pub mod Packed
+pub mod Active
+-- What postings are, and those of the heads.
+pub mod Pair
+pub mod Heads
+pub mod Resting
+-- How puts change them.
+pub mod Kinds
+pub mod Posted
+pub mod Written
+pub mod Undone
+pub mod Aside
+pub mod Rolled
+pub mod Published
+pub mod Exact
+pub mod Kept
+pub mod Spared
+pub mod Clean
+pub mod Healthy
+pub mod Form
+pub mod Formed
+-- All calls.
+pub mod Lookup
+pub mod Calls
+pub mod Rebuilt
+pub mod Morning

@@ -1,0 +1,1 @@
+// The laws about postings stand in specs/.
