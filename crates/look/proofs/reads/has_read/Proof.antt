@@ -1,0 +1,73 @@
+-- `has_read` meets its contract: a read of p is among all if it is among those from the present place on.
+use mathlib.Core.Path.{_≡_, refl, sym, ap, _∙_}
+use Prim.Native.Nat.{_-_, _≤_, min}
+use native.Mathlib.Omega.{arith}
+use lib.ListN.{take}
+use borrow.Author.Needs.{needs}
+use borrow.Author.Tests.{eq-eqb, ne-eqb}
+use Rattle.types.specs.Limits.{readLimit}
+use Rattle.types.specs.Zero.{noRead}
+use Rattle.rules.specs.Lists.{any}
+use Rattle.look.specs.First.{firstFrom, first-next, first-end, any-first, any-rest}
+use Rattle.look.specs.Reads.{ofPtr}
+use Rattle.look.proofs.Long.{list-long}
+use Rattle.look.proofs.reads.has_read.Statement.{statement}
+use Rattle.look.proofs.reads.has_read.Tie as tie
+
+abbrev Inv-loop : tie.InvT-loop
+Inv-loop p l n i₀ i = (i ≤ n) × (n ≡ min (l .count) readLimit) × (any (ofPtr (p .0)) (firstFrom (l .count) (l .at) i) ≡ any (ofPtr (p .0)) (take (l .count) (l .at)))
+
+abbrev μ-loop : tie.MeasureT-loop
+μ-loop p l n i₀ i = n - i
+
+clipped-requires : tie.Need-clipped-requires Inv-loop μ-loop
+clipped-requires c κs = search needs
+
+loop-holds : tie.Need-loop-holds Inv-loop μ-loop
+unfolding firstFrom
+loop-holds c = (omega arith, c .clipped .ensures, refl)
+
+mul-e : tie.Need-mul-e Inv-loop μ-loop
+mul-e c = search needs
+
+element-copy-out-e : tie.Need-element-copy-out-e Inv-loop μ-loop
+element-copy-out-e c = search needs
+
+returns : tie.Need-returns Inv-loop μ-loop
+returns c =
+    let turn = c .before .before .before .before in
+    let long = list-long (turn .before .before .before .args .t1) (turn .before .before .before .good .0) in
+    sym (any-first (ofPtr (turn .before .before .before .args .p .0)) _ _ _ (first-next _ _ _ noRead (omega arith)) (eq-eqb _ _ (c .if1 .taken))) ∙ turn .before .loop .inv .2
+
+add-i : tie.Need-add-i Inv-loop μ-loop
+add-i c = search needs
+
+loop-less : tie.Need-loop-less Inv-loop μ-loop
+loop-less c = search needs
+
+loop-again : tie.Need-loop-again Inv-loop μ-loop
+loop-again c =
+    let turn = c .before .before .before .before in
+    let long = list-long (turn .before .before .before .args .t1) (turn .before .before .before .good .0) in
+    (omega arith, omega arith, sym (any-rest (ofPtr (turn .before .before .before .args .p .0)) _ _ _ (first-next _ _ _ noRead (omega arith)) (ne-eqb _ _ (c .if1 .left))) ∙ turn .before .loop .inv .2)
+
+returns-2 : tie.Need-returns-2 Inv-loop μ-loop
+returns-2 c =
+    let long = list-long (c .before .before .before .args .t1) (c .before .before .before .good .0) in
+    ap (any (ofPtr (c .before .before .before .args .p .0))) (sym (first-end _ _ _ (omega arith))) ∙ c .before .loop .inv .2
+
+pub has-read-spec : {M : Type 1} → statement M
+has-read-spec =
+    tie.close
+    (tie.spec
+    Inv-loop
+    μ-loop
+    clipped-requires
+    loop-holds
+    mul-e
+    element-copy-out-e
+    returns
+    add-i
+    loop-less
+    loop-again
+    returns-2)

@@ -1,0 +1,72 @@
+-- `reads_of` meets its contract: the first i reads are laid out.
+use mathlib.Core.Path.{_≡_, refl}
+use Prim.Native.Nat.{_-_, _≤_, min}
+use native.Mathlib.Omega.{arith}
+use lib.ListN.{take}
+use borrow.Author.Needs.{needs}
+use Rattle.types.specs.Limits.{readLimit}
+use Rattle.types.specs.Zero.{noRead}
+use Rattle.rules.specs.Lists.{pad}
+use Rattle.look.specs.Pad.{pad-more}
+use Rattle.look.specs.Reads.{laid-first}
+use Rattle.look.proofs.Long.{reads-long}
+use Rattle.look.proofs.reads.reads_of.Statement.{statement}
+use Rattle.look.proofs.reads.reads_of.Tie as tie
+
+abbrev Inv-loop : tie.InvT-loop
+Inv-loop x at₀ count i₀ at i = (i ≤ count) × (count ≡ min (x .«read_count») readLimit) × (at ≡ pad readLimit noRead (take i (x .reads)))
+
+abbrev μ-loop : tie.MeasureT-loop
+μ-loop x at₀ count i₀ at i = count - i
+
+clipped-requires : tie.Need-clipped-requires Inv-loop μ-loop
+clipped-requires c κs = search needs
+
+loop-holds : tie.Need-loop-holds Inv-loop μ-loop
+loop-holds c = (omega arith, c .clipped .ensures, refl)
+
+mul-at : tie.Need-mul-at Inv-loop μ-loop
+mul-at c = search needs
+
+element-copy-out-at : tie.Need-element-copy-out-at Inv-loop μ-loop
+element-copy-out-at c = search needs
+
+mul-at-2 : tie.Need-mul-at-2 Inv-loop μ-loop
+mul-at-2 c = search needs
+
+array-set-from-at : tie.Need-array-set-from-at Inv-loop μ-loop
+array-set-from-at c = search needs
+
+add-i : tie.Need-add-i Inv-loop μ-loop
+add-i c = search needs
+
+loop-less : tie.Need-loop-less Inv-loop μ-loop
+loop-less c = search needs
+
+loop-again : tie.Need-loop-again Inv-loop μ-loop
+loop-again c =
+    let long = reads-long (c .before .before .before .before .args .t1) (c .before .before .before .before .good .0) in
+    (omega arith, omega arith, pad-more readLimit noRead _ _ _ (omega arith) (omega arith) (c .before .before .loop .inv .2))
+
+returns : tie.Need-returns Inv-loop μ-loop
+returns c =
+    let x = c .before .before .before .args .t1 in
+    let e : c .before .loop .i ≡ c .before .before .clipped .result = omega arith in
+    laid-first _ _ _ _ (reads-long x (c .before .before .before .good .0)) (c .before .before .clipped .ensures) (rw e at (c .before .loop .inv .2))
+
+pub reads-of-spec : {M : Type 1} → statement M
+reads-of-spec =
+    tie.close
+    (tie.spec
+    Inv-loop
+    μ-loop
+    clipped-requires
+    loop-holds
+    mul-at
+    element-copy-out-at
+    mul-at-2
+    array-set-from-at
+    add-i
+    loop-less
+    loop-again
+    returns)

@@ -1,0 +1,20 @@
+-- `stamp_of` meets its contract: a stripe is a place of the array.
+use mathlib.Core.Path.{sym}
+use native.Mathlib.Omega.{arith}
+use borrow.Author.Needs.{needs}
+use Rattle.types.specs.Limits.{stripes}
+use Rattle.look.specs.Lent.{array-at}
+use Rattle.look.proofs.stamps.stamp_of.Statement.{statement}
+use Rattle.look.proofs.stamps.stamp_of.Tie as tie
+
+mul-t4 : tie.Need-mul-t4
+mul-t4 c = search needs
+
+element-copy-out-t7 : tie.Need-element-copy-out-t7
+element-copy-out-t7 c = search needs
+
+returns : tie.Need-returns
+returns c = sym (array-at stripes 0 _ _ (omega arith))
+
+pub stamp-of-spec : {M : Type 1} → statement M
+stamp-of-spec = tie.close (tie.spec mul-t4 element-copy-out-t7 returns)

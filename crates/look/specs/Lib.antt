@@ -1,0 +1,16 @@
+pub mod Lent
+pub mod First
+pub mod Active
+pub mod Sight
+pub mod Own
+pub mod Chain
+pub mod Found
+pub mod Slots
+pub mod Pad
+pub mod Reads
+pub mod Record
+pub mod Marks
+pub mod Candidates
+pub mod Lookup
+pub mod Rows
+pub mod Stamps

@@ -1,0 +1,52 @@
+// What a transaction sees.
+
+ghost use mathlib.Core.Path.{_≡_};
+ghost use lib.ListN.{take};
+ghost use Rattle.rules.specs.Lists.{memb};
+ghost use Rattle.rules.specs.Transaction.{sees};
+ghost use Rattle.look.specs.Lent.{atActive};
+ghost use Rattle.look.specs.Sight.{seesBy};
+use super::lent::clipped;
+use types::Tx;
+use types::Txid;
+
+// A txid among the first `count` of a snapshot.
+pub fn in_snapshot(snapshot: &[u64; Txid::ACTIVE], count: usize, t: Txid) -> bool
+    ensures { λ r. ⌜ r ≡ memb (t .0) (take count (atActive (now (snapshot .entry)))) ⌝ }
+{
+    let n = clipped(count, Txid::ACTIVE);
+    let mut i: usize = 0;
+    while i < n {
+        if snapshot[i] == t.0 {
+            return true;
+        }
+        i += 1;
+    }
+    false
+}
+
+// The same as `sees`, from the parts of the transaction that it reads.
+pub fn sees_by(
+    snapshot: &[u64; Txid::ACTIVE],
+    count: usize,
+    reader: Txid,
+    end: Txid,
+    t: Txid,
+) -> bool
+    ensures { λ r. ⌜ r ≡ seesBy (atActive (now (snapshot .entry))) count (reader .0) (end .0) (t .0) ⌝ }
+{
+    if t.0 == reader.0 {
+        return true;
+    }
+    if t.0 < end.0 {
+        return !in_snapshot(snapshot, count, t);
+    }
+    false
+}
+
+// A creator is visible if it is the reader, or below snapshot_xmax and not in the snapshot.
+pub fn sees(x: Tx, t: Txid) -> bool
+    ensures { λ r. ⌜ r ≡ sees x (t .0) ⌝ }
+{
+    sees_by(&x.snapshot, x.snapshot_count, x.txid, x.snapshot_xmax, t)
+}

@@ -1,0 +1,46 @@
+// The lines of the replay script, taken apart, and the answer lines ("Replay" of document 01). Bytes come and go as slices and values.
+
+pub mod field;
+mod form;
+pub mod print;
+
+ghost use mathlib.Core.Path.{_≡_};
+ghost use Rattle.rules.specs.Script.{split, lineOf};
+ghost use Rattle.script.specs.Meaning.{meaning};
+use types::Cut;
+use types::Fault;
+use types::RowId;
+use types::Value;
+
+// A line of the script: a place is 0 to 15, any other number has 32 bits. `Bad`: "A line that isn't one of these forms is answered 2".
+pub enum Line {
+    Begin(usize),
+    Read(usize, RowId),
+    Write(usize, RowId, Value),
+    Lookup(usize, u32),
+    Lock(usize, RowId),
+    Abort(usize),
+    Commit(usize, bool, Cut),
+    Fault(Fault),
+    Recover,
+    Bad,
+}
+
+impl Line {
+    // "place 0 to 15"
+    pub const PLACES: usize = 16;
+}
+
+// The letter, and the fields between tabs after it.
+pub fn parse_line(line: &[u8]) -> Line
+    ensures { λ r. ⌜ meaning r ≡ lineOf (split 9 (now (line .entry))) ⌝ }
+{
+    if field::up_to(line, b'\t') != 1 {
+        return Line::Bad;
+    }
+    let c = line[0];
+    if line.len() == 1 {
+        return form::no_field(c);
+    }
+    form::fields(c, &line[2..])
+}
