@@ -6,7 +6,7 @@ use lib.ListN.{getD, drop}
 use borrow.Author.Tests.{ne-eqb}
 use Rattle.types.specs.Limits.{activeLimit}
 use Rattle.rules.specs.Store.{activeTxids}
-use Rattle.look.specs.Lent.{atActive, array-next, array-end}
+use Rattle.look.specs.Lent.{atActive, array-cons, array-end}
 
 -- the active txids from place i on
 unfoldable pub activeFrom : List ℕ → ℕ → List ℕ
@@ -20,9 +20,9 @@ module _ (l : List ℕ) (i : ℕ) where
 
   pub active-zero : i < activeLimit → getD l i 0 ≡ 0 → activeFrom l i ≡ []
   unfolding activeFrom
-  active-zero h e = rw (array-next activeLimit 0 l i h, e)
+  active-zero h e = rw (array-cons activeLimit 0 l i h, e)
 
   -- else one, and those from the next place on
   pub active-next : i < activeLimit → (getD l i 0 ≡ 0 → ⊥) → activeFrom l i ≡ getD l i 0 ∷ activeFrom l (i + 1)
   unfolding activeFrom
-  active-next h n = rw (array-next activeLimit 0 l i h, ne-eqb (getD l i 0) 0 n)
+  active-next h n = rw (array-cons activeLimit 0 l i h, ne-eqb (getD l i 0) 0 n)

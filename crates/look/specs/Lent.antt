@@ -33,8 +33,8 @@ module _ {ℓ} {A : Type ℓ} where
   array-at (suc n) z (x ∷ l) (suc i) h = array-at n z l i (le-of-suc-le-suc h)
 
   -- beyond them it reads z
-  pub array-beyond : (n : ℕ) (z : A) (l : List A) (i : ℕ) → n ≤ i → getD (array n z l) i z ≡ z
-  array-beyond n z l i h = let long = array-length n z l in List·getD-eq-default (array n z l) z {n = i} (omega arith)
+  pub array-past : (n : ℕ) (z : A) (l : List A) (i : ℕ) → n ≤ i → getD (array n z l) i z ≡ z
+  array-past n z l i h = let long = array-length n z l in List·getD-eq-default (array n z l) z {n = i} (omega arith)
 
   -- a list of that length is its own array
   pub array-same : (n : ℕ) (z : A) (l : List A) → length l ≡ n → array n z l ≡ l
@@ -45,8 +45,8 @@ module _ {ℓ} {A : Type ℓ} where
   array-same (suc n) z (x ∷ l) e = ap (λ (r : List A). x ∷ r) (array-same n z l (suc-inj e))
 
   -- what is left from place i on: the element there and the rest, or nothing
-  pub array-next : (n : ℕ) (z : A) (l : List A) (i : ℕ) → i < n → drop i (array n z l) ≡ getD l i z ∷ drop (i + 1) (array n z l)
-  array-next n z l i h =
+  pub array-cons : (n : ℕ) (z : A) (l : List A) (i : ℕ) → i < n → drop i (array n z l) ≡ getD l i z ∷ drop (i + 1) (array n z l)
+  array-cons n z l i h =
       let long = array-length n z l in
       rw (drop-cons (array n z l) i z (omega arith), array-at n z l i h, add-one)
 

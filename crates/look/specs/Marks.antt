@@ -13,7 +13,7 @@ use borrow.Author.Tests.{eqb-true, eqb-false, eq-eqb, ne-eqb, lt-ltb, le-ltb, lt
 use Rattle.types.specs.Limits.{rows}
 use Rattle.rules.specs.Lists.{all, into, inOrder}
 use Rattle.rules.specs.Bools.{by, and-true}
-use Rattle.look.specs.Lent.{flagsAtRows, array-next, array-end}
+use Rattle.look.specs.Lent.{flagsAtRows, array-cons, array-end}
 
 -- every number of l marked, one after the other
 abbrev pub markAll : List ℕ → List Bool → List Bool
@@ -99,8 +99,8 @@ module _ (m : List Bool) (i : ℕ) where
 
   pub marked-yes : i < rows → getD m i false ≡ true → markedAt m i ≡ i ∷ markedAt m (i + 1)
   unfolding markedAt
-  marked-yes h e = rw (array-next rows false m i h, e, add-one)
+  marked-yes h e = rw (array-cons rows false m i h, e, add-one)
 
   pub marked-no : i < rows → getD m i false ≡ false → markedAt m i ≡ markedAt m (i + 1)
   unfolding markedAt
-  marked-no h e = rw (array-next rows false m i h, e, add-one)
+  marked-no h e = rw (array-cons rows false m i h, e, add-one)

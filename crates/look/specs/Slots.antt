@@ -14,7 +14,7 @@ use Rattle.rules.specs.Store.{usedSlots, activeTxids}
 use Rattle.rules.specs.Chains.{walk, on}
 use Rattle.rules.specs.Puts.{ownSlots}
 use Rattle.rules.specs.Calls.{lockedByAnother}
-use Rattle.look.specs.Lent.{atPlaces, array-next, array-end}
+use Rattle.look.specs.Lent.{atPlaces, array-cons, array-end}
 
 -- the first free place from i on
 unfoldable pub freeFrom : List ℕ → ℕ → ℕ
@@ -27,11 +27,11 @@ module _ (xmin : List ℕ) (i : ℕ) where
 
   pub free-here : i < places → getD xmin i 0 ≡ 0 → freeFrom xmin i ≡ i
   unfolding freeFrom
-  free-here h e = rw (array-next places 0 xmin i h, e)
+  free-here h e = rw (array-cons places 0 xmin i h, e)
 
   pub free-next : i < places → (getD xmin i 0 ≡ 0 → ⊥) → freeFrom xmin i ≡ freeFrom xmin (i + 1)
   unfolding freeFrom
-  free-next h n = rw (array-next places 0 xmin i h, ne-eqb (getD xmin i 0) 0 n, add-one)
+  free-next h n = rw (array-cons places 0 xmin i h, ne-eqb (getD xmin i 0) 0 n, add-one)
 
 module _ (locked : List Bool) (owner active : List ℕ) (t p : ℕ) where
   unfoldable pub lockedOf : Bool

@@ -4,7 +4,7 @@ use mathlib.Core.Bool.{false}
 use native.Mathlib.Omega.{arith}
 use borrow.Author.Needs.{needs}
 use Rattle.types.specs.Limits.{places}
-use Rattle.look.specs.Lent.{array-at, array-beyond}
+use Rattle.look.specs.Lent.{array-at, array-past}
 use Rattle.look.proofs.lent.flag_at.Statement.{statement}
 use Rattle.look.proofs.lent.flag_at.Tie as tie
 
@@ -18,7 +18,7 @@ returns : tie.Need-returns
 returns c = sym (array-at places false _ _ (omega arith))
 
 returns-2 : tie.Need-returns-2
-returns-2 c = sym (array-beyond places false _ _ (omega arith))
+returns-2 c = sym (array-past places false _ _ (omega arith))
 
 pub flag-at-spec : {M : Type 1} → statement M
 flag-at-spec = tie.close (tie.spec cast-i element-copy-out-result returns returns-2)

@@ -3,7 +3,7 @@ use mathlib.Core.Path.{sym}
 use native.Mathlib.Omega.{arith}
 use borrow.Author.Needs.{needs}
 use Rattle.types.specs.Limits.{rows}
-use Rattle.look.specs.Lent.{array-at, array-beyond}
+use Rattle.look.specs.Lent.{array-at, array-past}
 use Rattle.look.proofs.lent.head_of.Statement.{statement}
 use Rattle.look.proofs.lent.head_of.Tie as tie
 
@@ -17,7 +17,7 @@ returns : tie.Need-returns
 returns c = sym (array-at rows 0 _ _ (omega arith))
 
 returns-2 : tie.Need-returns-2
-returns-2 c = sym (array-beyond rows 0 _ _ (omega arith))
+returns-2 c = sym (array-past rows 0 _ _ (omega arith))
 
 pub head-of-spec : {M : Type 1} → statement M
 head-of-spec = tie.close (tie.spec mul-t6 element-copy-out-t9 returns returns-2)

@@ -3,7 +3,7 @@ use mathlib.Core.Path.{sym}
 use native.Mathlib.Omega.{arith}
 use borrow.Author.Needs.{needs}
 use Rattle.types.specs.Limits.{places}
-use Rattle.look.specs.Lent.{array-at, array-beyond}
+use Rattle.look.specs.Lent.{array-at, array-past}
 use Rattle.look.proofs.lent.txid_at.Statement.{statement}
 use Rattle.look.proofs.lent.txid_at.Tie as tie
 
@@ -20,7 +20,7 @@ returns : tie.Need-returns
 returns c = sym (array-at places 0 _ _ (omega arith))
 
 returns-2 : tie.Need-returns-2
-returns-2 c = sym (array-beyond places 0 _ _ (omega arith))
+returns-2 c = sym (array-past places 0 _ _ (omega arith))
 
 pub txid-at-spec : {M : Type 1} → statement M
 txid-at-spec = tie.close (tie.spec cast-i mul-t6 element-copy-out-t9 returns returns-2)

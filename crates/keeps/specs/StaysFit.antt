@@ -1,0 +1,62 @@
+-- A transaction stays fit while its slots stay as they are, on no chain, and the clock is not lowered.
+use mathlib.Core.Path.{_≡_}
+use mathlib.Core.Bool.{Bool, true}
+use mathlib.Core.List.{List}
+use Prim.Native.Nat.{ℕ, _≤_, _<_}
+use native.Mathlib.Omega.{arith}
+use lib.ListN.{getD}
+use borrow.Author.Tests.{eqb-true, ltb-true, leb-true, le-leb}
+use Rattle.rules.specs.Types.{Store, Tx, Write}
+use Rattle.rules.specs.Transaction.{writesOf}
+use Rattle.rules.specs.Chains.{walk, on}
+use Rattle.rules.specs.Fit.{writeFit, fit}
+use Rattle.laws.specs.Sized.{Sized}
+use Rattle.laws.specs.Parts.{write-parts, parts-write, fit-parts, parts-fit}
+use Rattle.index.specs.All.{all-then}
+use Rattle.heart.specs.Meaning.{marks}
+use Rattle.heart.specs.Resting.{Rests}
+use Rattle.keeps.specs.Near.{on-near}
+
+-- a write of y that is fit for the store U
+abbrev pub fitsIn : Tx → Store → Write → Bool
+fitsIn y U = writeFit (U .xmin) (U .next) (walk (U .heads) (U .next) .seen) (y .txid .0)
+
+-- a transaction y of u, and a store T that has the chains of S, a clock that is not lower, and u's slots as they were
+module _ (S T : Store) (y : Tx) (L : ℕ → List ℕ) (R : Rests S L) (z : Sized S) (Q : Rests T L) (w : Sized T) (heads : T .heads ≡ S .heads) (le : S .clock ≤ T .clock)
+    (same : (n : ℕ) → 0 < getD (S .xmin) n 0 → getD (S .xmin) n 0 ≡ y .txid .0 → (getD (T .xmin) n 0 ≡ getD (S .xmin) n 0) × (getD (T .next) n 0 ≡ getD (S .next) n 0)) where
+  pub on-same : (n : ℕ) → on (walk (T .heads) (T .next) .seen) n ≡ on (walk (S .heads) (S .next) .seen) n
+  on-same n =
+      let D = marks T L w (Q .mends) in
+      rw heads (on-near (S .heads) (S .next) (T .next) (walk (S .heads) (S .next) .seen) (walk (S .heads) (T .next) .seen) L (marks S L z (R .mends)) (rw heads at D) n)
+
+  -- a fit write stays fit
+  pub writes-fit : (v : Write) → fitsIn y S v ≡ true → fitsIn y T v ≡ true
+  writes-fit v h =
+      let P = write-parts (S .xmin) (S .next) (walk (S .heads) (S .next) .seen) (y .txid .0) v h in
+      let n = v .new .0 in
+      let s = same n (ltb-true 0 (getD (S .xmin) n 0) (P .taken)) (eqb-true (getD (S .xmin) n 0) (y .txid .0) (P .mine)) in
+      parts-write (T .xmin) (T .next) (walk (T .heads) (T .next) .seen) (y .txid .0) v (record {
+        row = P .row;
+        base = P .base;
+        new = P .new;
+        taken = rw (s .0) (P .taken);
+        off = rw (on-same n) (P .off);
+        mine = rw (s .0) (P .mine);
+        over = rw (s .1) (P .over);
+      })
+
+  -- then y is fit for T if it is for S
+  pub stays-fit : fit S y ≡ true → fit T y ≡ true
+  stays-fit k =
+      let P = fit-parts S y k in
+      parts-fit T y (record {
+        counts = P .counts;
+        reads = P .reads;
+        writes = all-then (fitsIn y S) (fitsIn y T) writes-fit (writesOf y) (P .writes);
+        apart = P .apart;
+        stripes = P .stripes;
+        savepoints = P .savepoints;
+        within = P .within;
+        snapshot = P .snapshot;
+        present = le-leb (y .«snapshot_xmax» .0) (T .clock) (omega (arith, le, leb-true (y .«snapshot_xmax» .0) (S .clock) (P .present)));
+      })
