@@ -23,5 +23,5 @@ pub mod Ways
 pub mod Prefix
 -- P, then R; and that a commit leaves a resting store.
 pub mod Counted
-pub mod Demand3
+pub mod Cuts
 pub mod Again

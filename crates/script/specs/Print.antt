@@ -2,7 +2,7 @@
 use mathlib.Core.Path.{_≡_}
 use mathlib.Core.List.{[], _∷_}
 use Prim.Native.Nat.{ℕ, _≤_}
-use lib.ListN.{drop}
+use lib.ListN.{length, drop}
 use Rattle.rules.specs.Replay.{num, dash, says}
 use Rattle.rules.specs.Replay as replay
 use Rattle.rules.specs.Script.{Bytes, decimal, write}
@@ -33,5 +33,6 @@ thirdOf Dash = dash
 
 -- from start on, the bytes are what the definitions write for this one answer
 pub record Printed (line number : ℕ) (t : replay.Third) (bytes : Bytes) (start : ℕ) : Type 0 where
+  pub full : length bytes ≡ room
   pub inside : start ≤ room
   pub text : drop start bytes ≡ write line (says number t ∷ [])

@@ -9,7 +9,9 @@ is-byte-requires : tie.Need-is-byte-requires
 is-byte-requires c κs = search needs
 
 returns : tie.Need-returns
-returns c = value-absent (c .before .before .before .args .s .now) (sym (c .before .is-byte .ensures) ∙ c .if1 .taken)
+returns c =
+    let dash = c .before in
+    value-absent (dash .before .before .args .s .now) (sym (dash .is-byte .ensures) ∙ c .if1 .taken)
 
 number-requires : tie.Need-number-requires
 number-requires c κs = search needs
@@ -21,10 +23,17 @@ enum-told : tie.Need-enum-told
 enum-told c = search needs
 
 returns-2 : tie.Need-returns-2
-returns-2 c = value-not (c .before .before .before .before .before .before .args .s .now) (sym (c .before .before .before .before .is-byte .ensures) ∙ c .before .before .before .if1 .left) (sym (c .enum-told .given .1) ∙ c .before .before .number .ensures)
+returns-2 c =
+    let other = c .before .before .before in
+    let dash = other .before in
+    value-not (dash .before .before .args .s .now) (sym (dash .is-byte .ensures) ∙ other .if1 .left) (sym (c .enum-told .given .1) ∙ c .before .before .number .ensures)
 
 returns-3 : tie.Need-returns-3
-returns-3 c = value-key (c .before .before .before .before .before .before .before .args .s .now) (sym (c .before .before .before .before .before .is-byte .ensures) ∙ c .before .before .before .before .if1 .left) (sym (c .before .k .given .1) ∙ c .before .before .before .number .ensures)
+returns-3 c =
+    let at-k = c .before in
+    let other = at-k .before .before .before in
+    let dash = other .before in
+    value-key (dash .before .before .args .s .now) (sym (dash .is-byte .ensures) ∙ other .if1 .left) (sym (at-k .k .given .1) ∙ at-k .before .before .number .ensures)
 
 pub value-spec : {M : Type 1} → statement M
 value-spec =

@@ -16,9 +16,9 @@ one-field-requires c κs = search needs
 
 returns : tie.Need-returns
 returns c =
-    let s = c .before .before .before .before .args .s .now in
-    let a = c .before .before .up-to in
-    rw (split-last 9 s (a .ensures .0) (c .before .if1 .taken)) (c .one-field .ensures)
+    let a = c .before .before in
+    let s = a .before .before .args .s .now in
+    rw (split-last 9 s (a .up-to .ensures .0) (c .before .if1 .taken)) (c .one-field .ensures)
 
 add-t : tie.Need-add-t
 add-t c = search needs
@@ -36,17 +36,21 @@ up-to-requires-2 : tie.Need-up-to-requires-2
 up-to-requires-2 c κs = search needs
 
 slice-aggregate-two-fields : tie.Need-slice-aggregate-two-fields
-slice-aggregate-two-fields c = sym (length-take-le (c .before .before .before .before .before .up-to .result) (c .before .before .before .before .before .before .before .args .s .now) (omega arith))
+slice-aggregate-two-fields c =
+    let b = c .before .before in
+    let a = b .before .before .before in
+    let s = a .before .before .args .s .now in
+    sym (length-take-le (a .up-to .result) s (omega arith))
 
 two-fields-requires : tie.Need-two-fields-requires
 two-fields-requires c κs = search needs
 
 returns-2 : tie.Need-returns-2
 returns-2 c =
-    let s = c .before .before .before .before .before .before .before .before .args .s .now in
-    let a = c .before .before .before .before .before .before .up-to in
-    let b = c .before .before .before .up-to2 in
-    rw (split-first 9 s (a .ensures .0) (omega arith), split-last 9 (after s (a .result)) (b .ensures .0) (c .before .before .if2 .taken)) (c .two-fields .ensures)
+    let b = c .before .before .before in
+    let a = b .before .before .before in
+    let s = a .before .before .args .s .now in
+    rw (split-first 9 s (a .up-to .ensures .0) (omega arith), split-last 9 (after s (a .up-to .result)) (b .up-to2 .ensures .0) (c .before .before .if2 .taken)) (c .two-fields .ensures)
 
 add-u : tie.Need-add-u
 add-u c = search needs
@@ -64,32 +68,45 @@ up-to-requires-3 : tie.Need-up-to-requires-3
 up-to-requires-3 c κs = search needs
 
 slice-aggregate-three-fields : tie.Need-slice-aggregate-three-fields
-slice-aggregate-three-fields c = sym (length-take-le (c .before .before .before .before .before .before .before .before .up-to .result) (c .before .before .before .before .before .before .before .before .before .before .args .s .now) (omega arith))
+slice-aggregate-three-fields c =
+    let d = c .before .before in
+    let b = d .before .before .before in
+    let a = b .before .before .before in
+    let s = a .before .before .args .s .now in
+    sym (length-take-le (a .up-to .result) s (omega arith))
 
 slice-aggregate-three-fields-2 : tie.Need-slice-aggregate-three-fields-2
-slice-aggregate-three-fields-2 c = sym (length-take-le (c .before .before .before .before .before .before .up-to2 .result) (after (c .before .before .before .before .before .before .before .before .before .before .before .args .s .now) (c .before .before .before .before .before .before .before .before .before .up-to .result)) (omega arith))
+slice-aggregate-three-fields-2 c =
+    let d = c .before .before .before in
+    let b = d .before .before .before in
+    let a = b .before .before .before in
+    let s = a .before .before .args .s .now in
+    sym (length-take-le (b .up-to2 .result) (after s (a .up-to .result)) (omega arith))
 
 three-fields-requires : tie.Need-three-fields-requires
 three-fields-requires c κs = search needs
 
 returns-3 : tie.Need-returns-3
 returns-3 c =
-    let s = c .before .before .before .before .before .before .before .before .before .before .before .before .args .s .now in
-    let a = c .before .before .before .before .before .before .before .before .before .before .up-to in
-    let b = c .before .before .before .before .before .before .before .up-to2 in
-    let d = c .before .before .before .before .up-to3 in
-    rw (split-first 9 s (a .ensures .0) (omega arith), split-first 9 (after s (a .result)) (b .ensures .0) (omega arith), split-last 9 (after (after s (a .result)) (b .result)) (d .ensures .0) (c .before .before .before .if3 .taken)) (c .three-fields .ensures)
+    let d = c .before .before .before .before in
+    let b = d .before .before .before in
+    let a = b .before .before .before in
+    let s = a .before .before .args .s .now in
+    let t = after s (a .up-to .result) in
+    let u = after t (b .up-to2 .result) in
+    rw (split-first 9 s (a .up-to .ensures .0) (omega arith), split-first 9 t (b .up-to2 .ensures .0) (omega arith), split-last 9 u (d .up-to3 .ensures .0) (c .before .before .before .if3 .taken)) (c .three-fields .ensures)
 
 returns-4 : tie.Need-returns-4
 returns-4 c =
-    let s = c .before .before .before .before .before .before .before .before .before .args .s .now in
-    let a = c .before .before .before .before .before .before .before .up-to in
-    let b = c .before .before .before .before .up-to2 in
     let d = c .before .up-to3 in
+    let b = c .before .before .before .before .up-to2 in
+    let a = c .before .before .before .before .before .before .before .up-to in
+    let x = c .before .before .before .before .before .before .before .before .before .args in
+    let s = x .s .now in
     let t = after s (a .result) in
     let u = after t (b .result) in
     rw (split-first 9 s (a .ensures .0) (omega arith), split-first 9 t (b .ensures .0) (omega arith), split-first 9 u (d .ensures .0) (omega arith))
-    (sym (form-long (c .before .before .before .before .before .before .before .before .before .args .c) (take (a .result) s) (take (b .result) t) (take (d .result) u) (after u (d .result))))
+    (sym (form-long (x .c) (take (a .result) s) (take (b .result) t) (take (d .result) u) (after u (d .result))))
 
 pub fields-spec : {M : Type 1} → statement M
 fields-spec =

@@ -44,11 +44,19 @@ put-number-requires-2 c κs = search needs
 
 returns : tie.Need-returns
 returns c =
+    let line = c .before in
+    let tab-2 = line .before .before .before in
+    let number = tab-2 .before .before .before in
+    let tab = number .before .before .before in
+    let third = tab .before .before .before in
+    let feed = third .before .before .before in
+    let a = feed .before .before .args in
     record {
+      full = omega arith;
       inside = omega arith;
       text =
-          rw (c .before .put-number2 .ensures .2, c .before .before .before .before .put-byte3 .ensures .1, c .before .before .before .before .before .before .before .put-number .ensures .2, c .before .before .before .before .before .before .before .before .before .before .put-byte2 .ensures .1, c .before .before .before .before .before .before .before .before .before .before .before .before .before .put-third .ensures .2, c .before .before .before .before .before .before .before .before .before .before .before .before .before .before .before .before .put-byte .ensures .1)
-          (line-text (c .before .before .before .before .before .before .before .before .before .before .before .before .before .before .before .before .before .before .args .line) (c .before .before .before .before .before .before .before .before .before .before .before .before .before .before .before .before .before .before .args .number) (thirdOf (c .before .before .before .before .before .before .before .before .before .before .before .before .before .before .before .before .before .before .args .t)));
+          rw (line .put-number2 .ensures .2, tab-2 .put-byte3 .ensures .1, number .put-number .ensures .2, tab .put-byte2 .ensures .1, third .put-third .ensures .2, feed .put-byte .ensures .1)
+          (line-text (a .line) (a .number) (thirdOf (a .t)));
     }
 
 pub print-line-spec : {M : Type 1} → statement M

@@ -1,4 +1,4 @@
--- Demand 3: a commit cut after any number of its stores, and then recovered.
+-- A commit cut after any number of its stores, and then recovered.
 use mathlib.Core.Path.{_≡_, refl, sym, ap, _∙_, subst}
 use mathlib.Core.Bool.{Bool, true}
 use Prim.Native.Nat.{ℕ, _<_}
@@ -38,7 +38,7 @@ module _ (S : Store) (x : Tx) (logged : Bool) (plan : Schedule) where
   cutStore n = commit S x logged plan (After n) .store
 
   -- the first n stores are made, or all where there are no more
-  cut-store : Admitted S x plan → (n : ℕ) → cutStore n ≡ applyAll (take n (runOf S x logged plan .puts)) S
+  pub cut-store : Admitted S x plan → (n : ℕ) → cutStore n ≡ applyAll (take n (runOf S x logged plan .puts)) S
   unfolding uncut cutOff
   cut-store ok n = ap (λ a. a .store) (admitted S x logged plan (After n) ok) ∙ by (ltb n (length (runOf S x logged plan .puts)))
       (λ e. rw e)
@@ -49,7 +49,7 @@ module _ (S : Store) (x : Tx) (logged : Bool) (plan : Schedule) where
   uncut-refusal ok = ap (λ a. a .refusal) (admitted S x logged plan Uncut ok)
 
   -- no key is made on the way
-  keyed-run : Keyed S → (n : ℕ) → Keyed (applyAll (take n (runOf S x logged plan .puts)) S)
+  pub keyed-run : Keyed S → (n : ℕ) → Keyed (applyAll (take n (runOf S x logged plan .puts)) S)
   keyed-run k n =
       let ps = take n (runOf S x logged plan .puts) in
       at-all (λ c. ltb c keyEnd) (applyAll ps S .key) 0 (λ p lt. lt-ltb (getD (applyAll ps S .key) p 0) keyEnd
@@ -62,11 +62,11 @@ module _ (S : Store) (x : Tx) (logged : Bool) (plan : Schedule) where
       (subst (λ (D : Store). Shows (survives S x (runOf S x logged plan .end .refusal) D) D) (sym (cut-store ok n)) (prefix S x logged plan z ok n))
 
   -- P, then R
-  pub demand-3 : Sized S → Keyed S → Admitted S x plan → (n : ℕ) → let D = recovered (cutStore n) in
+  pub cut-recovered : Sized S → Keyed S → Admitted S x plan → (n : ℕ) → let D = recovered (cutStore n) in
       (recover (cutStore n) ≡ record { refusal = Done; store = D })
       × Recovered (cutStore n) D
       × ((r : ℕ) → r < rows → valueAt (D .key) (D .has) (getD (D .heads) r 0) ≡ survives S x (commit S x logged plan Uncut .refusal) (cutStore n) r)
-  demand-3 z k ok n =
+  cut-recovered z k ok n =
       let P = cut-shows z ok n in
       let ps = take n (runOf S x logged plan .puts) in
       let sized : Sized (cutStore n) = subst Sized (sym (cut-store ok n)) (sized-all ps S z) in

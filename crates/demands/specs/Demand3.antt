@@ -1,0 +1,118 @@
+-- Demand 3: stop a commit after any store, or fail or panic any step that may; then recover.
+use mathlib.Core.Path.{_≡_, refl, sym, ap, _∙_, subst}
+use mathlib.Core.Bool.{Bool, true, false, not, cond, _&&_}
+use mathlib.Core.List.{List, [], _∷_}
+use Prim.Native.Nat.{ℕ, _<_}
+use lib.ListN.{length, getD, take}
+use lib.Seq.{take-length}
+use lib.Dec.{eqb}
+use Rattle.types.specs.Limits.{rows}
+use Rattle.rules.specs.Lists.{memb}
+use Rattle.rules.specs.Types.{Store, Tx, Txid, RowId, SlotPtr, Write, Schedule, Answer, Cut, Uncut, After, Value, Open, Closed, Refusal, Done, Unfit, NotActive}
+use Rattle.rules.specs.Store.{valueAt, activeTxids}
+use Rattle.rules.specs.Transaction.{finals}
+use Rattle.rules.specs.Admitted.{repairable, resting}
+use Rattle.rules.specs.Fit.{fit}
+use Rattle.rules.specs.Faults.{scheduleFit}
+use Rattle.rules.specs.Puts.{applyAll}
+use Rattle.rules.specs.Commit.{runOf}
+use Rattle.rules.specs.Answer.{uncut, unchanged, commit}
+use Rattle.rules.specs.Recovery.{recovered, recover}
+use Rattle.rules.specs.Bools.{by, and-true}
+use Rattle.rules.specs.Rows.{Admitted, row-2, row-3, admitted}
+use Rattle.laws.specs.Sized.{Sized}
+use Rattle.laws.specs.Parts.{resting-parts}
+use Rattle.heart.specs.Sizes.{sized-all}
+use Rattle.heart.specs.Shown.{shown, withNew}
+use Rattle.heart.specs.Ways.{stands}
+use Rattle.heart.specs.Recovery.{Keyed, Recovered, recovery, recovered-again}
+use Rattle.heart.specs.Prefix.{prefix}
+use Rattle.heart.specs.Cuts.{recover-done, keyed-run, cut-store}
+
+-- what a row holds
+abbrev pub rowValue : Store → ℕ → Value
+rowValue T r = valueAt (T .key) (T .has) (getD (T .heads) r 0)
+
+-- the rows of a store before the call, by recovery itself
+abbrev pub before : Store → ℕ → Value
+before S r = rowValue (recover S .store) r
+
+-- "step 21's deregistration was stored and neither publication nor recycling had failed": the commit, uncut, answers 0 or 17, and the store D
+-- left behind has its txid no longer active
+abbrev pub survived : Store → Tx → Bool → Schedule → Store → Bool
+survived S x logged plan D = stands (commit S x logged plan Uncut .refusal) && not (memb (x .txid .0) (activeTxids (D .active)))
+
+-- "every row shows its old value, or all final writes show together and every other row its old value"
+abbrev pub after : Store → Tx → Bool → Schedule → Store → ℕ → Value
+after S x logged plan D r = cond (survived S x logged plan D) (withNew (S .key) (S .has) (finals x) (before S) r) (before S r)
+
+-- recovery of D accepts, leaves what recovery leaves, and shows old or new
+pub record Safe (S : Store) (x : Tx) (logged : Bool) (plan : Schedule) (D : Store) : Type 0 where
+  pub accepted : recover D .refusal ≡ Done
+  pub mended : Recovered D (recover D .store)
+  pub rows : (r : ℕ) → r < rows → rowValue (recover D .store) r ≡ after S x logged plan D r
+
+-- the writes put into rows that agree
+with-same : (key : List ℕ) (has : List Bool) (ws : List Write) (f g : ℕ → Value) → ((r : ℕ) → r < rows → f r ≡ g r) → (r : ℕ) → r < rows
+    → withNew key has ws f r ≡ withNew key has ws g r
+with-same key has [] f g h r lt = h r lt
+with-same key has (w ∷ ws) f g h r lt =
+    with-same key has ws (λ q. cond (eqb q (w .row .0)) (valueAt key has (w .new .0)) (f q)) (λ q. cond (eqb q (w .row .0)) (valueAt key has (w .new .0)) (g q))
+    (λ q l. rw (h q l)) r lt
+
+module _ (S : Store) (x : Tx) (logged : Bool) (plan : Schedule) (z : Sized S) (k : Keyed S) (rest : resting S ≡ true) where
+  mends : repairable S ≡ true
+  mends = resting-parts S rest .mendable
+
+  -- what the rows showed is what recovery shows
+  shown-before : (r : ℕ) → r < rows → shown S r ≡ before S r
+  shown-before r lt = rw (recover-done S mends) (sym (recovery S z k mends .shows r lt))
+
+  both : (b : Bool) (r : ℕ) → r < rows → cond b (withNew (S .key) (S .has) (finals x) (shown S)) (shown S) r ≡ cond b (withNew (S .key) (S .has) (finals x) (before S) r) (before S r)
+  both true r lt = with-same (S .key) (S .has) (finals x) (shown S) (before S) shown-before r lt
+  both false r lt = shown-before r lt
+
+  puts-cut : (n : ℕ) → Admitted S x plan → Safe S x logged plan (applyAll (take n (runOf S x logged plan .puts)) S)
+  unfolding uncut
+  puts-cut n ok =
+      let D = applyAll (take n (runOf S x logged plan .puts)) S in
+      let P = prefix S x logged plan z ok n in
+      let R = recovery D (sized-all (take n (runOf S x logged plan .puts)) S z) (keyed-run S x logged plan k n) (P .mends) in
+      let e = recover-done D (P .mends) in
+      let why = ap (λ (a : Answer). a .refusal) (admitted S x logged plan Uncut ok) in
+      record {
+        accepted = rw e;
+        mended = rw e R;
+        rows = λ r lt. rw (e, why) (R .shows r lt ∙ P .shows r lt ∙ both (stands (runOf S x logged plan .end .refusal) && not (memb (x .txid .0) (activeTxids (D .active)))) r lt);
+      }
+
+  -- the store that a commit leaves is some of its stores made
+  left : (cut : Cut) → Admitted S x plan → Safe S x logged plan (commit S x logged plan cut .store)
+  unfolding uncut
+  left Uncut ok =
+      let ps = runOf S x logged plan .puts in
+      rw (admitted S x logged plan Uncut ok) (rw (take-length ps) at (puts-cut (length ps) ok))
+  left (After n) ok = rw (cut-store S x logged plan ok n) (puts-cut n ok)
+
+  -- a refused commit leaves the store as it was
+  kept : (why : Refusal) → commit S x logged plan Uncut ≡ unchanged S x why → stands why ≡ false → Safe S x logged plan S
+  kept why e falls =
+      let f = recover-done S mends in
+      let answered : commit S x logged plan Uncut .refusal ≡ why = ap (λ (a : Answer). a .refusal) e in
+      record { accepted = rw f; mended = rw f (recovery S z k mends); rows = λ r lt. rw (answered, falls) }
+
+  -- DEMAND 3: for every resting store, poisoned ones included, every transaction, logging choice, schedule and cut
+  pub demand-3 : (cut : Cut) → Safe S x logged plan (commit S x logged plan cut .store)
+  demand-3 cut =
+      by (fit S x && scheduleFit plan)
+      (λ f. by (memb (x .txid .0) (activeTxids (S .active)))
+      (λ m. let c = and-true (fit S x) (scheduleFit plan) f in
+      left cut (record { rests = rest; fits = c .0; planned = c .1; active = m }))
+      (λ m. rw (row-3 S x logged plan cut rest f m) (kept (NotActive Closed) (row-3 S x logged plan Uncut rest f m) refl)))
+      (λ f. rw (row-2 S x logged plan cut rest f) (kept (Unfit Open) (row-2 S x logged plan Uncut rest f) refl))
+
+-- "recovery of a repairable store gives a resting, unpoisoned one, and a second recovery changes nothing"
+pub twice : (S : Store) → Sized S → Keyed S → repairable S ≡ true → recover (recover S .store) .store ≡ recover S .store
+twice S z k m =
+    let R = recovery S z k m in
+    rw (recover-done S m, recover-done (recovered S) (resting-parts (recovered S) (R .rests) .mendable)) (recovered-again S z m)
