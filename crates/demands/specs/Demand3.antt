@@ -53,7 +53,7 @@ pub record Safe (S : Store) (x : Tx) (logged : Bool) (plan : Schedule) (D : Stor
   pub rows : (r : ℕ) → r < rows → rowValue (recover D .store) r ≡ after S x logged plan D r
 
 -- the writes put into rows that agree
-with-same : (key : List ℕ) (has : List Bool) (ws : List Write) (f g : ℕ → Value) → ((r : ℕ) → r < rows → f r ≡ g r) → (r : ℕ) → r < rows
+pub with-same : (key : List ℕ) (has : List Bool) (ws : List Write) (f g : ℕ → Value) → ((r : ℕ) → r < rows → f r ≡ g r) → (r : ℕ) → r < rows
     → withNew key has ws f r ≡ withNew key has ws g r
 with-same key has [] f g h r lt = h r lt
 with-same key has (w ∷ ws) f g h r lt =

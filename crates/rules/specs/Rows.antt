@@ -120,7 +120,7 @@ module _ (S : Store) (x : Tx) (logged : Bool) (plan : Schedule) where
   called-not T a b c = called-any T a b c (panics S x logged plan) (bad S x logged plan) _
 
   -- the end of a run that answers 0
-  only-done : (n : ℕ) (ps : List Put) (d : End) → Outcome S x logged plan n ps d → isDone (d .refusal) ≡ true
+  pub only-done : (n : ℕ) (ps : List Put) (d : End) → Outcome S x logged plan n ps d → isDone (d .refusal) ≡ true
       → (ps ≡ afterStamp S x logged plan ++ release S x) × Passed S x logged plan
   only-done _ _ _ (done p) h = (refl, p)
   only-done _ _ _ (stays l t k) h = clash h (stay-not isZero refl refl k _)

@@ -20,7 +20,7 @@ Some P [] = ⊥
 Some P (x ∷ l) = P x ⊎ Some P l
 
 -- a test with `||`, with `&&`, of a list, of two numbers, in words
-either : {P Q : Type 0} (a b : Bool) → (a ≡ true) ↔ P → (b ≡ true) ↔ Q → ((a || b) ≡ true) ↔ (P ⊎ Q)
+pub either : {P Q : Type 0} (a b : Bool) → (a ≡ true) ↔ P → (b ≡ true) ↔ Q → ((a || b) ≡ true) ↔ (P ⊎ Q)
 either true b p q = (λ t. inl (p .0 refl), λ s. refl)
 either false b p q = (λ t. inr (q .0 t), ⊎-elim (λ x. absurd (false≢true (p .1 x))) (q .1))
 

@@ -1,0 +1,135 @@
+-- Demand 2: with an admitted, unpoisoned store, a fit open transaction, no fault, no cut, and either logging, no writes or a store not durably
+-- bound, a commit succeeds exactly when the four tests all say no; and what it then leaves.
+use mathlib.Core.Path.{_≡_, refl, sym, ap, _∙_, subst}
+use mathlib.Core.Bool.{Bool, true, false, cond, _&&_, _||_}
+use mathlib.Core.List.{List, [], _∷_, _++_}
+use mathlib.Core.Logic.{_↔_, _≢_, _⊎_}
+use Prim.Native.Nat.{ℕ, _<_}
+use native.Mathlib.Omega.{arith}
+use lib.ListN.{length, getD}
+use lib.Dec.{eqb}
+use borrow.Author.Tests.{eqb-true, eqb-false}
+use Rattle.types.specs.Limits.{rows, writeLimit}
+use Rattle.types.specs.Zero.{noWrite, onlyTxid}
+use Rattle.rules.specs.Lists.{memb, isZero, pad}
+use Rattle.rules.specs.Types.{Store, Tx, Txid, RowId, SlotPtr, Write, ReadRecord, IndexRead, Schedule, Record, Answer, Cut, Uncut, Value, Fate, Closed}
+use Rattle.rules.specs.Store.{valueAt, activeTxids, postingsOf}
+use Rattle.rules.specs.Transaction.{writesOf, readsOf, indexReadsOf, finalWrites, finals, emptied}
+use Rattle.rules.specs.Chains.{walk, on}
+use Rattle.rules.specs.Admitted.{finished, headPostings, resting}
+use Rattle.rules.specs.Numbers.{numberOf, fateIn, isDone}
+use Rattle.rules.specs.Puts.{Put, kStripe, kPartition, kInsert, kRemove, kXmax, kHead, kFree, kDrop, kStamp, kPoison, kDoom, putDrop, applyAll, abortPuts}
+use Rattle.rules.specs.Changes.{release, insertions, removals, publication, recycling, stamping}
+use Rattle.rules.specs.Commit.{runOf, fails, unloggedWrites}
+use Rattle.rules.specs.Answer.{uncut, commit}
+use Rattle.rules.specs.Bools.{by, or-left}
+use Rattle.rules.specs.Only.{only, only-both, kept, is-not}
+use Rattle.rules.specs.Outcome.{conflicting, Passed, guardsTaken, afterInsert, afterRemove, afterPublish, afterRecycle, afterFinish, afterStamp, outcome}
+use Rattle.rules.specs.TestLaws.{Some, LockedByAnother, Stale, either, index-reads-say, row-locks-say, serialization-says, write-bases-say}
+use Rattle.rules.specs.Rows.{Admitted, success, whole, only-done}
+use Rattle.rules.specs.Aftermath.{abortNumber, row-0, row-aborted}
+use Rattle.laws.specs.Sized.{Sized}
+use Rattle.index.specs.Kinds.{taken-kinds, release-kinds, insertions-kind, removals-kind, publication-kinds, recycling-kind, stamping-kind}
+use Rattle.index.specs.Healthy.{row-0-exact}
+use Rattle.heart.specs.Shown.{shown, withNew}
+use Rattle.heart.specs.Ways.{stands}
+use Rattle.heart.specs.Live.{Shows}
+use Rattle.heart.specs.Sizes.{sized-all}
+use Rattle.heart.specs.Start.{shows-heads}
+use Rattle.heart.specs.Meaning.{Mends, Stands, Off, marks}
+use Rattle.heart.specs.Resting.{Rests, rests}
+use Rattle.heart.specs.Recovery.{Keyed}
+use Rattle.heart.specs.Again.{commit-rests, stood}
+use Rattle.demands.specs.Demand3.{rowValue, with-same}
+
+-- the kinds of a clean commit's puts: no poison, no doom
+abbrev clean : List ℕ
+clean = kStripe ∷ kPartition ∷ kInsert ∷ kRemove ∷ kXmax ∷ kHead ∷ kFree ∷ kDrop ∷ kStamp ∷ []
+
+module _ (S : Store) (x : Tx) (logged : Bool) (plan : Schedule) where
+  clean-run : only clean (afterStamp S x logged plan ++ release S x) ≡ true
+  clean-run =
+      let a = only-both clean (guardsTaken S x logged plan) (insertions S x) (taken-kinds clean refl refl S x logged plan) (insertions-kind clean S x refl) in
+      let b = only-both clean (afterInsert S x logged plan) (removals S x) a (removals-kind clean S x refl) in
+      let c = only-both clean (afterRemove S x logged plan) (publication x) b (publication-kinds clean S x refl refl) in
+      let d = only-both clean (afterPublish S x logged plan) (recycling S x) c (recycling-kind clean S x refl) in
+      let e = only-both clean (afterRecycle S x logged plan) (putDrop (x .txid .0) ∷ []) d refl in
+      let f = only-both clean (afterFinish S x logged plan) (stamping S x) e (stamping-kind clean S x refl) in
+      only-both clean (afterStamp S x logged plan) (release S x) f (release-kinds clean refl refl S x)
+
+  -- a clean run poisons nothing
+  stays-healthy : S .poisoned ≡ false → Admitted S x plan → isDone (commit S x logged plan Uncut .refusal) ≡ true → commit S x logged plan Uncut .store .poisoned ≡ false
+  unfolding uncut
+  stays-healthy h ok d =
+      let u = whole S x logged plan Uncut ok isZero refl d in
+      let ps = afterStamp S x logged plan ++ release S x in
+      rw (u, only-done S x logged plan _ _ _ (outcome S x logged plan) (rw u at d) .0)
+      (kept (λ T. T .poisoned) clean (λ p T m. rw (is-not clean kPoison refl p m, is-not clean kDoom refl p m)) ps S clean-run ∙ h)
+
+  -- the four tests in words; one of them says yes
+  abbrev pub Conflicts : Type 0
+  Conflicts =
+      ((x .«index_conflict» ≡ true) ⊎ Some (λ e. getD (S .stamps) (e .stripe) 0 ≢ e .stamp .0) (indexReadsOf x))
+      ⊎ (Some (λ w. LockedByAnother S (x .txid .0) (getD (S .heads) (w .row .0) 0)) (writesOf x)
+      ⊎ (Some (Stale (S .xmin) (S .xmax) x) (readsOf x)
+      ⊎ Some (λ w. getD (S .heads) (w .row .0) 0 ≢ w .base .0) (finalWrites (writesOf x))))
+
+  conflicts-say : (conflicting S x logged plan ≡ true) ↔ Conflicts
+  conflicts-say =
+      either _ _ (index-reads-say (S .stamps) x) (either _ _ (row-locks-say S x) (either _ _ (serialization-says (S .xmin) (S .xmax) x) (write-bases-say (S .heads) x)))
+
+  -- what success leaves
+  pub record Committed (a : Answer) : Type 0 where
+    pub names : a .«record» ≡ record { txid = x .txid; writes = pad writeLimit noWrite (finals x); count = length (finals x) }
+    pub rows : (r : ℕ) → r < rows → rowValue (a .store) r ≡ withNew (S .key) (S .has) (finals x) (rowValue S) r
+    pub postings : postingsOf (a .store) ≡ headPostings (a .store .key) (a .store .has) 0 (a .store .heads)
+    pub gone : memb (x .txid .0) (activeTxids (a .store .active)) ≡ false
+    pub rests : resting (a .store) ≡ true
+    pub healthy : a .store .poisoned ≡ false
+    pub lists : a .tx ≡ emptied x
+
+  module _ (z : Sized S) (k : Keyed S) (ok : Admitted S x plan) (quiet : plan .count ≡ 0) (sound : S .poisoned ≡ false) (free : (unloggedWrites S x logged plan && S .bound) ≡ false) where
+    abbrev pub A : Answer
+    A = commit S x logged plan Uncut
+
+    -- the number
+    pub number : numberOf (A .refusal) ≡ cond (conflicting S x logged plan) 7 0
+    number = success S x logged plan ok quiet sound free
+
+    -- DEMAND 2: number 0 exactly when the four tests all say no
+    pub demand-2 : (numberOf (A .refusal) ≡ 0) ↔ (Conflicts → ⊥)
+    demand-2 =
+        ( (λ h c. absurd (omega (arith, rw (conflicts-say .1 c, h) at (sym number))))
+        , (λ no-one. by (conflicting S x logged plan) (λ e. absurd (no-one (conflicts-say .0 e))) (λ e. rw e at number)))
+
+    -- the store is that of the whole run
+    ran : isDone (A .refusal) ≡ true → (A .store ≡ applyAll (runOf S x logged plan .puts) S) × (stands (runOf S x logged plan .end .refusal) ≡ true)
+    unfolding uncut
+    ran d = let u = whole S x logged plan Uncut ok isZero refl d in (rw u, or-left _ _ (rw u at d))
+
+    -- and what success leaves: the record, the rows, the postings, the active list
+    pub demand-2-leaves : isDone (A .refusal) ≡ true → Committed A
+    demand-2-leaves d =
+        let h = stays-healthy sound ok d in
+        let r = commit-rests S x logged plan z k (ok .rests) Uncut isZero refl d in
+        let e = ran d in
+        let s = stood S x logged plan z ok (e .1) in
+        let sized : Sized (A .store) = subst Sized (sym (e .0)) (sized-all (runOf S x logged plan .puts) S z) in
+        let left = row-0 S x logged plan Uncut ok d in
+        record {
+          names = left .1;
+          rows = λ q lt. sym (shows-heads (A .store) sized r h q lt) ∙ ap (λ (T : Store). shown T q) (e .0) ∙ s .0 .shows q lt
+          ∙ with-same (S .key) (S .has) (finals x) (shown S) (rowValue S) (λ p l. shows-heads S z (ok .rests) sound p l) q lt;
+          postings = row-0-exact S x logged plan z Uncut ok d;
+          gone = subst (λ (T : Store). memb (x .txid .0) (activeTxids (T .active)) ≡ false) (sym (e .0)) (s .1);
+          rests = r;
+          healthy = h;
+          lists = left .0;
+        }
+
+-- "Each abort that neither fault nor cut strikes truly frees and deregisters": 5, 6, 7 and 9 with no fault at 23, whatever the cut; what the
+-- aborted store has is said by `abort-aborts` (crate `keeps`) of the call, whose stores are the same
+pub demand-2-aborts : (S : Store) (x : Tx) (logged : Bool) (plan : Schedule) (cut : Cut) → Admitted S x plan → let a = commit S x logged plan cut in
+    abortNumber S x logged plan (numberOf (a .refusal)) ≡ true → fails S x logged plan 23 ≡ false
+    → (a .store ≡ applyAll (abortPuts S (x .txid .0)) S) × (a .tx ≡ onlyTxid (x .txid .0)) × (fateIn (a .refusal) ≡ Closed)
+demand-2-aborts S x logged plan cut ok h f = row-aborted S x logged plan cut ok h f
