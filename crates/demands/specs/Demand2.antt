@@ -8,7 +8,7 @@ use Prim.Native.Nat.{ℕ, _<_}
 use native.Mathlib.Omega.{arith}
 use lib.ListN.{length, getD}
 use lib.Dec.{eqb}
-use borrow.Author.Tests.{eqb-true, eqb-false}
+use borrow.Author.Tests.{eqb-true}
 use Rattle.types.specs.Limits.{rows, writeLimit}
 use Rattle.types.specs.Zero.{noWrite, onlyTxid}
 use Rattle.rules.specs.Lists.{memb, isZero, pad}
@@ -22,7 +22,7 @@ use Rattle.rules.specs.Puts.{Put, kStripe, kPartition, kInsert, kRemove, kXmax,
 use Rattle.rules.specs.Changes.{release, insertions, removals, publication, recycling, stamping}
 use Rattle.rules.specs.Commit.{runOf, fails, unloggedWrites}
 use Rattle.rules.specs.Answer.{uncut, commit}
-use Rattle.rules.specs.Bools.{by, or-left}
+use Rattle.rules.specs.Bools.{clash, by, or-left}
 use Rattle.rules.specs.Only.{only, only-both, kept, is-not}
 use Rattle.rules.specs.Outcome.{conflicting, Passed, guardsTaken, afterInsert, afterRemove, afterPublish, afterRecycle, afterFinish, afterStamp, outcome}
 use Rattle.rules.specs.TestLaws.{Some, LockedByAnother, Stale, either, index-reads-say, row-locks-say, serialization-says, write-bases-say}
@@ -35,12 +35,24 @@ use Rattle.heart.specs.Shown.{shown, withNew}
 use Rattle.heart.specs.Ways.{stands}
 use Rattle.heart.specs.Live.{Shows}
 use Rattle.heart.specs.Sizes.{sized-all}
-use Rattle.heart.specs.Start.{shows-heads}
-use Rattle.heart.specs.Meaning.{Mends, Stands, Off, marks}
+use Rattle.heart.specs.Start.{txid-positive, shows-heads}
+use Rattle.heart.specs.Meaning.{Mends, Stands, ActiveForm, OffForm, marks}
 use Rattle.heart.specs.Resting.{Rests, rests}
 use Rattle.heart.specs.Recovery.{Keyed}
 use Rattle.heart.specs.Again.{commit-rests, stood}
+use Rattle.keeps.specs.Active.{unfinished-is}
 use Rattle.demands.specs.Demand3.{rowValue, with-same}
+
+-- on an unpoisoned resting store a txid that is not active has no slot off the chains
+no-stray : (T : Store) → Sized T → resting T ≡ true → T .poisoned ≡ false → (t : ℕ) → 0 < t → memb t (activeTxids (T .active)) ≡ false
+    → (p : ℕ) → getD (T .xmin) p 0 ≡ t → on (walk (T .heads) (T .next) .seen) p ≡ true
+no-stray T z r healthy t pos gone p e =
+    let R = rests T z r in
+    let M = marks T (R .0) z (R .1 .mends) in
+    by (on (walk (T .heads) (T .next) .seen) p) (λ o. o) (λ o.
+    let off = R .1 .mends .stands .off p (omega arith) (λ q lt. by (memb p (R .0 q)) (λ m. clash (M .marked q p lt m) o) (λ m. m)) in
+    let u = unfinished-is (T .active) (T .clock) (R .1 .mends .listed) (T .doomed) t (rw e at (off .unfinished)) in
+    absurd (omega (arith, R .1 .undoomed healthy, eqb-true t (T .doomed) (rw gone at u))))
 
 -- the kinds of a clean commit's puts: no poison, no doom
 abbrev clean : List ℕ
@@ -84,6 +96,7 @@ module _ (S : Store) (x : Tx) (logged : Bool) (plan : Schedule) where
     pub rows : (r : ℕ) → r < rows → rowValue (a .store) r ≡ withNew (S .key) (S .has) (finals x) (rowValue S) r
     pub postings : postingsOf (a .store) ≡ headPostings (a .store .key) (a .store .has) 0 (a .store .heads)
     pub gone : memb (x .txid .0) (activeTxids (a .store .active)) ≡ false
+    pub home : (p : ℕ) → getD (a .store .xmin) p 0 ≡ x .txid .0 → on (walk (a .store .heads) (a .store .next) .seen) p ≡ true
     pub rests : resting (a .store) ≡ true
     pub healthy : a .store .poisoned ≡ false
     pub lists : a .tx ≡ emptied x
@@ -98,9 +111,10 @@ module _ (S : Store) (x : Tx) (logged : Bool) (plan : Schedule) where
 
     -- DEMAND 2: number 0 exactly when the four tests all say no
     pub demand-2 : (numberOf (A .refusal) ≡ 0) ↔ (Conflicts → ⊥)
-    demand-2 =
-        ( (λ h c. absurd (omega (arith, rw (conflicts-say .1 c, h) at (sym number))))
-        , (λ no-one. by (conflicting S x logged plan) (λ e. absurd (no-one (conflicts-say .0 e))) (λ e. rw e at number)))
+    demand-2 = (
+      (λ h c. absurd (omega (arith, rw (conflicts-say .1 c, h) at (sym number)))),
+      (λ no-one. by (conflicting S x logged plan) (λ e. absurd (no-one (conflicts-say .0 e))) (λ e. rw e at number)),
+    )
 
     -- the store is that of the whole run
     ran : isDone (A .refusal) ≡ true → (A .store ≡ applyAll (runOf S x logged plan .puts) S) × (stands (runOf S x logged plan .end .refusal) ≡ true)
@@ -116,12 +130,15 @@ module _ (S : Store) (x : Tx) (logged : Bool) (plan : Schedule) where
         let s = stood S x logged plan z ok (e .1) in
         let sized : Sized (A .store) = subst Sized (sym (e .0)) (sized-all (runOf S x logged plan .puts) S z) in
         let left = row-0 S x logged plan Uncut ok d in
+        let gone = subst (λ (T : Store). memb (x .txid .0) (activeTxids (T .active)) ≡ false) (sym (e .0)) (s .1) in
+        let start = rests S z (ok .rests) in
         record {
           names = left .1;
           rows = λ q lt. sym (shows-heads (A .store) sized r h q lt) ∙ ap (λ (T : Store). shown T q) (e .0) ∙ s .0 .shows q lt
-          ∙ with-same (S .key) (S .has) (finals x) (shown S) (rowValue S) (λ p l. shows-heads S z (ok .rests) sound p l) q lt;
+              ∙ with-same (S .key) (S .has) (finals x) (shown S) (rowValue S) (λ p l. shows-heads S z (ok .rests) sound p l) q lt;
           postings = row-0-exact S x logged plan z Uncut ok d;
-          gone = subst (λ (T : Store). memb (x .txid .0) (activeTxids (T .active)) ≡ false) (sym (e .0)) (s .1);
+          gone = gone;
+          home = no-stray (A .store) sized r h (x .txid .0) (txid-positive S (start .0) z (start .1) (x .txid .0) (ok .active)) gone;
           rests = r;
           healthy = h;
           lists = left .0;

@@ -41,7 +41,7 @@ module _ (act : List ℕ) (clock : ℕ) (F : ActiveForm act clock) where
   mem-active t n = mem-before act t (F .after) n
 
   -- what is not finished is active or doomed, and so below the clock
-  unfinished-is : (d t : ℕ) → finished act d t ≡ false → (memb t (activeTxids act) || eqb t d) ≡ true
+  pub unfinished-is : (d t : ℕ) → finished act d t ≡ false → (memb t (activeTxids act) || eqb t d) ≡ true
   unfolding finished
   unfinished-is d t n =
       let o = or-false (eqb t 0) (not (memb t act) && not (eqb t d)) n in
