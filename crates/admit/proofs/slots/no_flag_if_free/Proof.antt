@@ -1,0 +1,71 @@
+-- `no_flag_if_free` meets its contract: what is left from place i on decides as the whole does.
+use mathlib.Core.Path.{_≡_}
+use mathlib.Core.Logic.{⊎-elim}
+use Prim.Native.Nat.{_+_, _-_, _<_, _≤_}
+use native.Mathlib.Omega.{arith}
+use borrow.Author.Needs.{needs}
+use borrow.Author.Tests.{not-true}
+use Rattle.types.specs.Limits.{places}
+use mathlib.Core.Bool.{Bool, true, false, not}
+use Rattle.rules.specs.Lists.{eachOr, nonzero}
+use Rattle.admit.specs.Lent.{atPlaces, flagsAtPlaces}
+use Rattle.admit.specs.Scan.{eachLeft, each-first, each-second, each-fail, each-end}
+use Rattle.admit.specs.Facts.{nonzero-yes, nonzero-no}
+use Rattle.admit.proofs.slots.no_flag_if_free.Statement.{statement}
+use Rattle.admit.proofs.slots.no_flag_if_free.Tie as tie
+
+abbrev Inv-loop : tie.InvT-loop
+Inv-loop xmin flag i₀ i = (i ≤ places) × (eachLeft nonzero not places 0 false xmin flag i ≡ eachOr nonzero not (atPlaces xmin) (flagsAtPlaces flag))
+
+abbrev μ-loop : tie.MeasureT-loop
+μ-loop xmin flag i₀ i = places - i
+
+loop-holds : tie.Need-loop-holds Inv-loop μ-loop
+unfolding eachLeft
+loop-holds c = search needs
+
+mul-if1 : tie.Need-mul-if1 Inv-loop μ-loop
+mul-if1 c = search needs
+
+element-copy-out-if1 : tie.Need-element-copy-out-if1 Inv-loop μ-loop
+element-copy-out-if1 c = search needs
+
+element-copy-out-if2 : tie.Need-element-copy-out-if2 Inv-loop μ-loop
+element-copy-out-if2 c = search needs
+
+returns : tie.Need-returns Inv-loop μ-loop
+returns c = each-fail _ _ _ _ _ _ _ _ _ (c .before .before .before .before .before .loop .inv .1) (omega arith) (nonzero-no (c .before .before .if1 .taken)) (rw (c .if2 .taken))
+
+add-i : tie.Need-add-i Inv-loop μ-loop
+add-i c = search needs
+
+loop-less : tie.Need-loop-less Inv-loop μ-loop
+loop-less c = search needs
+
+loop-again : tie.Need-loop-again Inv-loop μ-loop
+loop-again c = (
+  omega arith,
+  ⊎-elim
+      (λ w. each-second _ _ _ _ _ _ _ _ _ (c .before .before .before .loop .inv .1) (omega arith) (rw (w .2 .left)))
+      (λ w. each-first _ _ _ _ _ _ _ _ _ (c .before .before .before .loop .inv .1) (omega arith) (nonzero-yes (w .left)))
+      (c .if1 .came),
+)
+
+returns-2 : tie.Need-returns-2 Inv-loop μ-loop
+returns-2 c = each-end _ _ _ _ _ _ _ _ _ (c .before .loop .inv .1) (omega arith)
+
+pub no-flag-if-free-spec : {M : Type 1} → statement M
+no-flag-if-free-spec =
+    tie.close
+    (tie.spec
+    Inv-loop
+    μ-loop
+    loop-holds
+    mul-if1
+    element-copy-out-if1
+    element-copy-out-if2
+    returns
+    add-i
+    loop-less
+    loop-again
+    returns-2)

@@ -1,0 +1,70 @@
+-- `no_key_if_absent` meets its contract: what is left from place i on decides as the whole does.
+use mathlib.Core.Path.{_≡_}
+use mathlib.Core.Logic.{⊎-elim}
+use Prim.Native.Nat.{_+_, _-_, _<_, _≤_}
+use native.Mathlib.Omega.{arith}
+use borrow.Author.Needs.{needs}
+use borrow.Author.Tests.{not-true, not-false}
+use Rattle.types.specs.Limits.{places}
+use mathlib.Core.Bool.{false}
+use Rattle.rules.specs.Lists.{eachOr, isZero}
+use Rattle.admit.specs.Lent.{atPlaces, flagsAtPlaces}
+use Rattle.admit.specs.Scan.{eachLeft, each-first, each-second, each-fail, each-end}
+use Rattle.admit.proofs.slots.no_key_if_absent.Statement.{statement}
+use Rattle.admit.proofs.slots.no_key_if_absent.Tie as tie
+
+abbrev Inv-loop : tie.InvT-loop
+Inv-loop has key i₀ i = (i ≤ places) × (eachLeft (λ b. b) isZero places false 0 has key i ≡ eachOr (λ b. b) isZero (flagsAtPlaces has) (atPlaces key))
+
+abbrev μ-loop : tie.MeasureT-loop
+μ-loop has key i₀ i = places - i
+
+loop-holds : tie.Need-loop-holds Inv-loop μ-loop
+unfolding eachLeft
+loop-holds c = search needs
+
+element-copy-out-if1 : tie.Need-element-copy-out-if1 Inv-loop μ-loop
+element-copy-out-if1 c = search needs
+
+mul-if2 : tie.Need-mul-if2 Inv-loop μ-loop
+mul-if2 c = search needs
+
+element-copy-out-if2 : tie.Need-element-copy-out-if2 Inv-loop μ-loop
+element-copy-out-if2 c = search needs
+
+returns : tie.Need-returns Inv-loop μ-loop
+returns c = each-fail _ _ _ _ _ _ _ _ _ (c .before .before .before .before .before .loop .inv .1) (omega arith) (not-true _ (c .before .before .if1 .taken)) (not-true _ (c .if2 .taken))
+
+add-i : tie.Need-add-i Inv-loop μ-loop
+add-i c = search needs
+
+loop-less : tie.Need-loop-less Inv-loop μ-loop
+loop-less c = search needs
+
+loop-again : tie.Need-loop-again Inv-loop μ-loop
+loop-again c = (
+  omega arith,
+  ⊎-elim
+      (λ w. each-second _ _ _ _ _ _ _ _ _ (c .before .before .before .loop .inv .1) (omega arith) (not-false _ (w .2 .left)))
+      (λ w. each-first _ _ _ _ _ _ _ _ _ (c .before .before .before .loop .inv .1) (omega arith) (not-false _ (w .left)))
+      (c .if1 .came),
+)
+
+returns-2 : tie.Need-returns-2 Inv-loop μ-loop
+returns-2 c = each-end _ _ _ _ _ _ _ _ _ (c .before .loop .inv .1) (omega arith)
+
+pub no-key-if-absent-spec : {M : Type 1} → statement M
+no-key-if-absent-spec =
+    tie.close
+    (tie.spec
+    Inv-loop
+    μ-loop
+    loop-holds
+    element-copy-out-if1
+    mul-if2
+    element-copy-out-if2
+    returns
+    add-i
+    loop-less
+    loop-again
+    returns-2)

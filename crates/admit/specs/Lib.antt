@@ -1,0 +1,17 @@
+pub mod Lent
+pub mod Facts
+pub mod Scan
+pub mod Every
+pub mod Walked
+pub mod Active
+pub mod Versions
+pub mod Used
+pub mod Climb
+pub mod Posted
+pub mod Told
+pub mod Lending
+pub mod Row
+pub mod Apart
+pub mod Allowed
+pub mod Fitting
+pub mod Fits

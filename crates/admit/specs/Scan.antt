@@ -1,0 +1,109 @@
+-- Scans of lent arrays: what is left to test from an index on, against the whole.
+use mathlib.Core.Path.{_≡_, refl, sym}
+use mathlib.Core.Bool.{Bool, true, false, or-true}
+use mathlib.Core.List.{List}
+use Prim.Native.Nat.{ℕ, suc, _+_, _<_, _≤_}
+use lib.ListN.{length, getD, take, drop}
+use borrow.Author.Tests.{eq-eqb, ne-eqb}
+use Rattle.rules.specs.Lists.{all, those, eachOr, memb}
+use Rattle.admit.specs.Lent.{array, array-cons, array-end, first-cons, first-end, first-past}
+
+-- every element of the array from i on passes; shut, so that a law finds its parts
+unfoldable pub allLeft {ℓ} : {A : Type ℓ} → (A → Bool) → ℕ → A → List A → ℕ → Bool
+allLeft f n z l i = all f (drop i (array n z l))
+
+module _ {ℓ} {A : Type ℓ} (f : A → Bool) (n : ℕ) (z : A) (l : List A) (i : ℕ) (w : Bool) where
+  -- the one at i passes: the rest decides
+  pub all-pass : allLeft f n z l i ≡ w → i < n → f (getD l i z) ≡ true → allLeft f n z l (i + 1) ≡ w
+  unfolding allLeft
+  all-pass e h t = rw (array-cons n z l i h, t) at e
+
+  -- it fails: so does the whole
+  pub all-fail : allLeft f n z l i ≡ w → i < n → f (getD l i z) ≡ false → false ≡ w
+  unfolding allLeft
+  all-fail e h t = rw (array-cons n z l i h, t) at e
+
+  -- none is left: the whole passes
+  pub all-end : allLeft f n z l i ≡ w → n ≤ i → true ≡ w
+  unfolding allLeft
+  all-end e h = rw (array-end n z l i h) at e
+
+-- every one of the first k elements from i on passes
+unfoldable pub firstLeft {ℓ} : {A : Type ℓ} → (A → Bool) → ℕ → ℕ → A → List A → ℕ → Bool
+firstLeft f k n z l i = all f (drop i (take k (array n z l)))
+
+module _ {ℓ} {A : Type ℓ} (f : A → Bool) (k n : ℕ) (z : A) (l : List A) (i : ℕ) (w : Bool) where
+  pub first-pass : firstLeft f k n z l i ≡ w → i < k → i < n → f (getD l i z) ≡ true → firstLeft f k n z l (i + 1) ≡ w
+  unfolding firstLeft
+  first-pass e h m t = rw (first-cons k n z l i h m, t) at e
+
+  pub first-fail : firstLeft f k n z l i ≡ w → i < k → i < n → f (getD l i z) ≡ false → false ≡ w
+  unfolding firstLeft
+  first-fail e h m t = rw (first-cons k n z l i h m, t) at e
+
+  pub first-none : firstLeft f k n z l i ≡ w → k ≤ i → true ≡ w
+  unfolding firstLeft
+  first-none e h = rw (first-end k n z l i h) at e
+
+  pub first-out : firstLeft f k n z l i ≡ w → n ≤ i → true ≡ w
+  unfolding firstLeft
+  first-out e h = rw (first-past k n z l i h) at e
+
+-- how many from i on pass
+unfoldable pub countLeft {ℓ} : {A : Type ℓ} → (A → Bool) → ℕ → A → List A → ℕ → ℕ
+countLeft f n z l i = length (those f (drop i (array n z l)))
+
+module _ {ℓ} {A : Type ℓ} (f : A → Bool) (n : ℕ) (z : A) (l : List A) (i : ℕ) where
+  pub count-yes : i < n → f (getD l i z) ≡ true → countLeft f n z l i ≡ suc (countLeft f n z l (i + 1))
+  unfolding countLeft
+  count-yes h t = rw (array-cons n z l i h, t)
+
+  pub count-no : i < n → f (getD l i z) ≡ false → countLeft f n z l i ≡ countLeft f n z l (i + 1)
+  unfolding countLeft
+  count-no h t = rw (array-cons n z l i h, t)
+
+  pub count-end : n ≤ i → countLeft f n z l i ≡ 0
+  unfolding countLeft
+  count-end h = rw (array-end n z l i h)
+
+-- at every place from i on, f holds of the first array or g of the second
+unfoldable pub eachLeft {ℓ κ} : {A : Type ℓ} {B : Type κ} → (A → Bool) → (B → Bool) → ℕ → A → B → List A → List B → ℕ → Bool
+eachLeft f g n y z l m i = eachOr f g (drop i (array n y l)) (drop i (array n z m))
+
+module _ {ℓ κ} {A : Type ℓ} {B : Type κ} (f : A → Bool) (g : B → Bool) (n : ℕ) (y : A) (z : B) (l : List A) (m : List B) (i : ℕ) (w : Bool) where
+  -- f holds at i, or g does: the rest decides
+  pub each-first : eachLeft f g n y z l m i ≡ w → i < n → f (getD l i y) ≡ true → eachLeft f g n y z l m (i + 1) ≡ w
+  unfolding eachLeft
+  each-first e h t = rw (array-cons n y l i h, array-cons n z m i h, t) at e
+
+  pub each-second : eachLeft f g n y z l m i ≡ w → i < n → g (getD m i z) ≡ true → eachLeft f g n y z l m (i + 1) ≡ w
+  unfolding eachLeft
+  each-second e h t = rw (array-cons n y l i h, array-cons n z m i h, t, or-true) at e
+
+  -- neither does: the whole fails
+  pub each-fail : eachLeft f g n y z l m i ≡ w → i < n → f (getD l i y) ≡ false → g (getD m i z) ≡ false → false ≡ w
+  unfolding eachLeft
+  each-fail e h s t = rw (array-cons n y l i h, array-cons n z m i h, s, t) at e
+
+  -- none is left: the whole passes
+  pub each-end : eachLeft f g n y z l m i ≡ w → n ≤ i → true ≡ w
+  unfolding eachLeft
+  each-end e h = rw (array-end n z m i h) at e
+
+-- t stands in the array from i on
+unfoldable pub membLeft : ℕ → ℕ → List ℕ → ℕ → Bool
+membLeft t n l i = memb t (drop i (array n 0 l))
+
+module _ (t n : ℕ) (l : List ℕ) (i : ℕ) (w : Bool) where
+  -- it stands at i, or not there, or none is left
+  pub memb-hit : membLeft t n l i ≡ w → i < n → getD l i 0 ≡ t → true ≡ w
+  unfolding membLeft
+  memb-hit e h q = rw (array-cons n 0 l i h, eq-eqb t (getD l i 0) (sym q)) at e
+
+  pub memb-pass : membLeft t n l i ≡ w → i < n → (getD l i 0 ≡ t → ⊥) → membLeft t n l (i + 1) ≡ w
+  unfolding membLeft
+  memb-pass e h q = rw (array-cons n 0 l i h, ne-eqb t (getD l i 0) (λ s. q (sym s))) at e
+
+  pub memb-end : membLeft t n l i ≡ w → n ≤ i → false ≡ w
+  unfolding membLeft
+  memb-end e h = rw (array-end n 0 l i h) at e

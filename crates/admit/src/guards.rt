@@ -1,0 +1,34 @@
+// No guard is held.
+
+ghost use mathlib.Core.Path.{_≡_};
+ghost use Rattle.types.specs.Limits.{stripes, partitions};
+ghost use Rattle.rules.specs.Lists.{allZero};
+ghost use Rattle.admit.specs.Lent.{array};
+use types::RowId;
+use types::Store;
+
+pub fn no_stripe_held(guards: &[u64; Store::STRIPES]) -> bool
+    ensures { λ r. ⌜ r ≡ allZero (array stripes 0 (now (guards .entry))) ⌝ }
+{
+    let mut i: usize = 0;
+    while i < Store::STRIPES {
+        if guards[i] != 0 {
+            return false;
+        }
+        i += 1;
+    }
+    true
+}
+
+pub fn no_partition_held(guards: &[u64; RowId::PARTITIONS]) -> bool
+    ensures { λ r. ⌜ r ≡ allZero (array partitions 0 (now (guards .entry))) ⌝ }
+{
+    let mut i: usize = 0;
+    while i < RowId::PARTITIONS {
+        if guards[i] != 0 {
+            return false;
+        }
+        i += 1;
+    }
+    true
+}

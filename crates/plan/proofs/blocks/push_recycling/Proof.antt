@@ -1,0 +1,14 @@
+-- `push_recycling` meets its contract.
+use Rattle.plan.specs.Blocks.{recycles}
+use borrow.Author.Needs.{needs}
+use Rattle.plan.proofs.blocks.push_recycling.Statement.{statement}
+use Rattle.plan.proofs.blocks.push_recycling.Tie as tie
+
+push-marked-requires : tie.Need-push-marked-requires
+push-marked-requires c κs = search needs
+
+returns : tie.Need-returns
+returns c = λ S x e long. recycles S x _ e long (c .push-marked .ensures)
+
+pub push-recycling-spec : {M : Type 1} → statement M
+push-recycling-spec = tie.close (tie.spec push-marked-requires returns)

@@ -1,0 +1,71 @@
+-- `read_partitions` meets its contract: the reads from place i on, marked besides those marked so far, make the marks of all.
+use mathlib.Core.Path.{_≡_, refl, sym, _∙_}
+use mathlib.Core.List.{map}
+use Prim.Native.Nat.{_-_, _≤_, min}
+use native.Mathlib.Omega.{arith}
+use Rattle.types.specs.Limits.{readLimit}
+use Rattle.types.specs.Zero.{noRead}
+use Rattle.rules.specs.Transaction.{readsOf}
+use Rattle.look.specs.First.{firstFrom, first-next, first-end}
+use Rattle.look.proofs.Long.{reads-long}
+use Rattle.plan.specs.Marks.{markAll, mark-next}
+use Rattle.plan.specs.Guards.{partitionRead}
+use borrow.Author.Needs.{needs}
+use Rattle.plan.proofs.guards.read_partitions.Statement.{statement}
+use Rattle.plan.proofs.guards.read_partitions.Tie as tie
+
+abbrev Inv-loop : tie.InvT-loop
+Inv-loop x q₀ n i₀ q i =
+    (i ≤ n) × (n ≡ min (x .«read_count») readLimit) × (markAll (map partitionRead (firstFrom (x .«read_count») (x .reads) i)) q ≡ markAll (map partitionRead (readsOf x)) q₀)
+
+abbrev μ-loop : tie.MeasureT-loop
+μ-loop x q₀ n i₀ q i = n - i
+
+within-requires : tie.Need-within-requires Inv-loop μ-loop
+within-requires c κs = search needs
+
+loop-holds : tie.Need-loop-holds Inv-loop μ-loop
+unfolding firstFrom
+loop-holds c = (omega arith, c .within .ensures, refl)
+
+mul-e : tie.Need-mul-e Inv-loop μ-loop
+mul-e c = search needs
+
+element-copy-out-e : tie.Need-element-copy-out-e Inv-loop μ-loop
+element-copy-out-e c = search needs
+
+add-i : tie.Need-add-i Inv-loop μ-loop
+add-i c = search needs
+
+array-write-q : tie.Need-array-write-q Inv-loop μ-loop
+array-write-q c = search needs
+
+loop-less : tie.Need-loop-less Inv-loop μ-loop
+loop-less c = search needs
+
+loop-again : tie.Need-loop-again Inv-loop μ-loop
+loop-again c =
+    let long = reads-long (c .before .before .before .before .before .args .t1) (c .before .before .before .before .before .good .0) in
+    (omega arith, omega arith, sym (mark-next partitionRead _ _ _ _ (first-next _ _ _ noRead (omega arith))) ∙ c .before .before .before .loop .inv .2)
+
+returns : tie.Need-returns Inv-loop μ-loop
+returns c =
+    let x = c .before .before .before .args .t1 in
+    let long = reads-long x (c .before .before .before .good .0) in
+    rw (first-end (x .«read_count») (x .reads) (c .before .loop .i) (omega arith)) at (c .before .loop .inv .2)
+
+pub read-partitions-spec : {M : Type 1} → statement M
+read-partitions-spec =
+    tie.close
+    (tie.spec
+    Inv-loop
+    μ-loop
+    within-requires
+    loop-holds
+    mul-e
+    element-copy-out-e
+    add-i
+    array-write-q
+    loop-less
+    loop-again
+    returns)

@@ -1,0 +1,9 @@
+pub mod Marks
+pub mod Pushes
+pub mod Plain
+pub mod Publish
+pub mod Moves
+pub mod Guards
+pub mod Own
+pub mod Few
+pub mod Blocks
