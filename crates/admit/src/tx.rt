@@ -118,7 +118,13 @@ fn reads_fit(reads: [ReadRecord; Tx::READS], n: usize) -> bool
 }
 
 // One write: the new pointer used, off every chain, with xmin the txid, next the base.
-fn write_fit<'a>(xmin: &'a [u64; SlotPtr::PLACES], next: &'a [u32; SlotPtr::PLACES], seen: &[u8; SlotPtr::PLACES], t: u64, w: Write) -> bool
+fn write_fit<'a>(
+    xmin: &'a [u64; SlotPtr::PLACES],
+    next: &'a [u32; SlotPtr::PLACES],
+    seen: &[u8; SlotPtr::PLACES],
+    t: u64,
+    w: Write,
+) -> bool
     ensures { λ r. ⌜ r ≡ writeAt (now (xmin .entry)) (now (next .entry)) (now (seen .entry)) t w ⌝ }
 {
     if RowId::ROWS <= w.row.0 {
@@ -145,7 +151,14 @@ fn write_fit<'a>(xmin: &'a [u64; SlotPtr::PLACES], next: &'a [u32; SlotPtr::PLAC
 }
 
 // Each of the first n writes.
-fn writes_fit<'a>(xmin: &'a [u64; SlotPtr::PLACES], next: &'a [u32; SlotPtr::PLACES], seen: &[u8; SlotPtr::PLACES], t: u64, writes: [Write; Tx::WRITES], n: usize) -> bool
+fn writes_fit<'a>(
+    xmin: &'a [u64; SlotPtr::PLACES],
+    next: &'a [u32; SlotPtr::PLACES],
+    seen: &[u8; SlotPtr::PLACES],
+    t: u64,
+    writes: [Write; Tx::WRITES],
+    n: usize,
+) -> bool
     requires { ⌜ n ≤ writeLimit ⌝ }
     ensures { λ r. ⌜ r ≡ all (writeAt (now (xmin .entry)) (now (next .entry)) (now (seen .entry)) t) (take n (array writeLimit noWrite writes)) ⌝ }
 {
@@ -290,7 +303,13 @@ fn counts_fit(x: Tx) -> bool
 }
 
 // Fit for a store with these fields, under the marks of its walk.
-pub fn fit_of<'a>(xmin: &'a [u64; SlotPtr::PLACES], next: &'a [u32; SlotPtr::PLACES], clock: u64, seen: &[u8; SlotPtr::PLACES], x: Tx) -> bool
+pub fn fit_of<'a>(
+    xmin: &'a [u64; SlotPtr::PLACES],
+    next: &'a [u32; SlotPtr::PLACES],
+    clock: u64,
+    seen: &[u8; SlotPtr::PLACES],
+    x: Tx,
+) -> bool
     ensures { λ r. ⌜ r ≡ fitBy (now (xmin .entry)) (now (next .entry)) clock (now (seen .entry)) x ⌝ }
 {
     if !counts_fit(x) {

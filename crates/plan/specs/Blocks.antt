@@ -1,7 +1,7 @@
 -- The blocks of a commit by their names: what the runs of puts add to a journal is what the definitions say.
 use mathlib.Core.Path.{_≡_, refl, sym, ap, _∙_}
 use mathlib.Core.Bool.{Bool, true, false}
-use mathlib.Core.List.{List, [], _∷_, _++_, map, reverse}
+use mathlib.Core.List.{List, [], _∷_, map, reverse}
 use Prim.Native.Nat.{ℕ, zero, suc, _≤_, min}
 use native.Mathlib.Nat.{not-suc-le-zero, le-of-suc-le-suc}
 use native.Mathlib.Omega.{arith}
@@ -9,11 +9,11 @@ use lib.ListN.{length, take}
 use lib.Seq.{take-all}
 use Rattle.types.specs.Limits.{stripes, partitions, places, writeLimit}
 use Rattle.rules.specs.Lists.{all, pad}
-use Rattle.rules.specs.Types.{Store, Tx, Txid, Write}
+use Rattle.rules.specs.Types.{Store, Tx, Write}
 use Rattle.rules.specs.Transaction.{finals}
 use Rattle.rules.specs.Chains.{walk}
 use Rattle.rules.specs.Fit.{fit}
-use Rattle.rules.specs.Puts.{Put, put, kStripe, kPartition, kInsert, kRemove, kFree, kDrop, kStamp, kLock, putRemove, putDrop, ownSlots, abortPuts}
+use Rattle.rules.specs.Puts.{Put, put, kStripe, kPartition, kInsert, kRemove, kFree, kStamp, kLock, putRemove, putDrop, ownSlots, abortPuts}
 use Rattle.rules.specs.Changes.{changes, destinations, sources, indexGuards, partitionGuards, release, insertions, removals, publication, recycling, stamping}
 use Rattle.journal.specs.Journal.{placeBase, narrow, Pushed}
 use Rattle.journal.specs.Holds.{kept-wide}

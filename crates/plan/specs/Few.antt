@@ -1,7 +1,7 @@
 -- How many puts a block has, and a run.
-use mathlib.Core.Path.{_≡_, refl, ap}
+use mathlib.Core.Path.{_≡_, ap}
 use mathlib.Core.Bool.{Bool, true}
-use mathlib.Core.List.{List, [], _∷_, _++_, map}
+use mathlib.Core.List.{List, [], _∷_, map}
 use Prim.Native.Nat.{ℕ, suc, _+_, _≤_}
 use native.Mathlib.Omega.{arith}
 use lib.ListN.{length, length-append, length-map, length-take}
@@ -10,7 +10,7 @@ use borrow.Author.Tests.{leb-true}
 use Rattle.types.specs.Limits.{stripes, partitions, places, writeLimit}
 use Rattle.rules.specs.Lists.{flat, any}
 use Rattle.rules.specs.Bools.{by, every-cons}
-use Rattle.rules.specs.Types.{Store, Tx, Txid, Write, RowId, SlotPtr}
+use Rattle.rules.specs.Types.{Store, Tx, Write}
 use Rattle.rules.specs.Transaction.{writesOf, finalWrites, finals}
 use Rattle.rules.specs.Chains.{walk}
 use Rattle.rules.specs.Fit.{countsFit, fit}

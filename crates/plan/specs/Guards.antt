@@ -10,7 +10,7 @@ use borrow.Author.Tests.{lt-ltb}
 use Rattle.types.specs.Limits.{stripes, partitions}
 use Rattle.rules.specs.Lists.{all, flat, inOrder}
 use Rattle.rules.specs.Bools.{and-true, and-both}
-use Rattle.rules.specs.Types.{Store, Tx, Write, RowId, ReadRecord, IndexRead, Value, Absent, Key}
+use Rattle.rules.specs.Types.{Store, Tx, Write, ReadRecord, IndexRead, Value, Absent, Key}
 use Rattle.rules.specs.Store.{stripeOf, partitionOf}
 use Rattle.rules.specs.Transaction.{writesOf, readsOf, indexReadsOf}
 use Rattle.rules.specs.Fit.{fit, stripesApart}

@@ -7,3 +7,4 @@ pub mod Guards
 pub mod Own
 pub mod Few
 pub mod Blocks
+pub mod Room

@@ -1,8 +1,8 @@
 -- What a commit changes in the index, laid out in arrays: the postings that go in, those that go out, the changed stripes marked.
 use mathlib.Core.Path.{_≡_, refl, sym, ap, _∙_}
-use mathlib.Core.Bool.{Bool, true, false, not, cond}
+use mathlib.Core.Bool.{Bool, true, false, not}
 use mathlib.Core.List.{List, [], _∷_, _++_, map, append-assoc, append-nil}
-use Prim.Native.Nat.{ℕ, suc, _+_, _%_, _<_, _≤_, min}
+use Prim.Native.Nat.{ℕ, _+_, _%_, _<_, _≤_, min}
 use native.Mathlib.Numerals.{add-one}
 use native.Mathlib.Omega.{arith}
 use lib.ListN.{length, getD, set, take, replicate, length-append, length-take, length-map, List·getD-map}
@@ -11,7 +11,7 @@ use Rattle.types.specs.Limits.{rows, stripes, writeLimit}
 use Rattle.types.specs.Zero.{noWrite}
 use Rattle.rules.specs.Lists.{all, those, flat, pad}
 use Rattle.rules.specs.Bools.{by}
-use Rattle.rules.specs.Types.{Write, RowId, SlotPtr, Value, Absent, Key}
+use Rattle.rules.specs.Types.{Write, Value, Absent, Key}
 use Rattle.rules.specs.Store.{valueAt, sameValue}
 use Rattle.rules.specs.Changes.{Change, changeOf, indexChanges, postingIn, destinations, sources, stripesIn}
 use Rattle.look.specs.Pad.{pad-snoc}

@@ -1,6 +1,6 @@
 -- A transaction's own slots as marks, and the same without those that its final writes name.
 use mathlib.Core.Path.{_≡_, refl, sym, ap, _∙_}
-use mathlib.Core.Bool.{Bool, true, false, not, cond, _&&_, _||_}
+use mathlib.Core.Bool.{Bool, true, false, not, _&&_, _||_}
 use mathlib.Core.List.{List, [], _∷_, map}
 use Prim.Native.Nat.{ℕ, zero, suc, _+_, _<_, _≤_}
 use native.Mathlib.Nat.{add-zero}
@@ -13,7 +13,7 @@ use borrow.Author.Tests.{eq-eqb, ne-eqb, lt-ltb, le-leb, leb-true}
 use Rattle.types.specs.Limits.{places}
 use Rattle.rules.specs.Lists.{all, those, nonzeroFrom, memb, rising, into, inOrder}
 use Rattle.rules.specs.Bools.{by, and-true, and-both}
-use Rattle.rules.specs.Types.{Store, Tx, Txid, Write, SlotPtr}
+use Rattle.rules.specs.Types.{Store, Tx, Write}
 use Rattle.rules.specs.Transaction.{finals}
 use Rattle.rules.specs.Chains.{walk}
 use Rattle.rules.specs.Puts.{ownSlots}

@@ -1,15 +1,15 @@
 -- Writes within the limits: what a journal and a posting can hold.
-use mathlib.Core.Path.{_≡_, refl, _∙_}
+use mathlib.Core.Path.{_≡_, refl}
 use mathlib.Core.Bool.{Bool, true, _&&_}
 use mathlib.Core.List.{List, [], _∷_, map}
-use Prim.Native.Nat.{ℕ, _%_, _<_, _≤_}
+use Prim.Native.Nat.{_%_, _<_, _≤_}
 use native.Mathlib.Nat.{mod-eq-of-lt}
 use lib.Dec.{ltb, leb}
 use borrow.Author.Tests.{ltb-true, leb-true}
 use Rattle.types.specs.Limits.{rows, slots}
 use Rattle.rules.specs.Lists.{all}
 use Rattle.rules.specs.Bools.{and-true, and-both}
-use Rattle.rules.specs.Types.{Store, Tx, Txid, Write, RowId, SlotPtr}
+use Rattle.rules.specs.Types.{Store, Tx, Write}
 use Rattle.rules.specs.Transaction.{writesOf, finals}
 use Rattle.rules.specs.Chains.{walk}
 use Rattle.rules.specs.Fit.{fit}

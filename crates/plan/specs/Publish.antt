@@ -12,7 +12,7 @@ use borrow.Author.Tests.{eq-eqb, ne-eqb}
 use Rattle.types.specs.Zero.{noWrite}
 use Rattle.rules.specs.Lists.{all, flat}
 use Rattle.rules.specs.Bools.{by}
-use Rattle.rules.specs.Types.{Tx, Txid, Write, RowId, SlotPtr}
+use Rattle.rules.specs.Types.{Tx, Write}
 use Rattle.rules.specs.Transaction.{finals}
 use Rattle.rules.specs.Puts.{Put, putXmax, putHead}
 use Rattle.rules.specs.Changes.{publishOne, publication}

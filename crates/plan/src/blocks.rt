@@ -4,10 +4,10 @@
 ghost use mathlib.Core.Path.{_≡_};
 ghost use mathlib.Core.Bool.{true};
 ghost use mathlib.Core.List.{[], _∷_, map, reverse};
-ghost use Prim.Native.Nat.{ℕ, _≤_};
+ghost use Prim.Native.Nat.{_≤_};
 ghost use lib.ListN.{length, take};
 ghost use Rattle.types.specs.Limits.{places};
-ghost use Rattle.rules.specs.Types.{Store, Tx, Txid};
+ghost use Rattle.rules.specs.Types.{Store, Tx};
 ghost use Rattle.rules.specs.Transaction.{finals};
 ghost use Rattle.rules.specs.Chains.{walk};
 ghost use Rattle.rules.specs.Fit.{fit};

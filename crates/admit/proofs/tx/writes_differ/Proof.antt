@@ -53,12 +53,12 @@ loop-less c = search needs
 
 loop-again : tie.Need-loop-again Inv-loop μ-loop
 loop-again c = (
-      omega arith,
-      ⊎-elim
-          (λ v. first-pass _ _ _ _ _ _ _ (c .before .before .before .before .before .before .before .before .loop .inv .1) (omega arith) (omega arith) (same-base _ _ (c .before .before .before .if1 .left) (v .3 .left)))
-          (λ v. first-pass _ _ _ _ _ _ _ (c .before .before .before .before .before .before .before .before .loop .inv .1) (omega arith) (omega arith) (other-row _ _ (c .before .before .before .if1 .left) (v .left)))
-          (c .if2 .came),
-    )
+  omega arith,
+  ⊎-elim
+      (λ v. first-pass _ _ _ _ _ _ _ (c .before .before .before .before .before .before .before .before .loop .inv .1) (omega arith) (omega arith) (same-base _ _ (c .before .before .before .if1 .left) (v .3 .left)))
+      (λ v. first-pass _ _ _ _ _ _ _ (c .before .before .before .before .before .before .before .before .loop .inv .1) (omega arith) (omega arith) (other-row _ _ (c .before .before .before .if1 .left) (v .left)))
+      (c .if2 .came),
+)
 
 returns-3 : tie.Need-returns-3 Inv-loop μ-loop
 returns-3 c = first-none _ _ _ _ _ _ _ (c .before .loop .inv .1) (omega arith)

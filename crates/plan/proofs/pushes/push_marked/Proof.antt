@@ -1,5 +1,5 @@
 -- `push_marked` meets its contract. The invariant: what is pushed so far and what is left are the block.
-use mathlib.Core.Path.{_≡_, sym, _∙_}
+use mathlib.Core.Path.{_≡_}
 use mathlib.Core.Bool.{false}
 use Prim.Native.Nat.{_≤_, _-_}
 use native.Mathlib.Omega.{arith}
@@ -7,7 +7,7 @@ use borrow.Author.Needs.{needs}
 use lib.ListN.{length}
 use Rattle.rules.specs.Puts.{kLock}
 use Rattle.journal.specs.Journal.{placeBase, narrow}
-use Rattle.plan.specs.Pushes.{Pushing, pushing-start, pushing-end, push-mark, pass-mark, marked, marked-none, marked-end, marked-skip, marked-take}
+use Rattle.plan.specs.Pushes.{Pushing, pushing-start, pushing-end, push-mark, pass-mark, marked, marked-none, marked-end}
 use Rattle.plan.proofs.pushes.push_marked.Statement.{statement}
 use Rattle.plan.proofs.pushes.push_marked.Tie as tie
 

@@ -1,0 +1,40 @@
+-- `trimmed` meets its contract.
+use mathlib.Core.Path.{sym, _∙_}
+use Rattle.rules.specs.Admitted.{finished}
+use Rattle.mend.specs.Trim.{trim-none, trim-stay, trim-next}
+use borrow.Author.Needs.{needs}
+use Rattle.mend.proofs.trim.trimmed.Statement.{statement}
+use Rattle.mend.proofs.trim.trimmed.Tie as tie
+
+returns : tie.Need-returns
+returns c = let a = c .before .before .before .before .args in trim-none (finished (a .active .now) (a .doomed)) (a .xmin .now) (a .next .now) (a .h) (c .if1 .taken)
+
+place-requires : tie.Need-place-requires
+place-requires c κs = search needs
+
+txid-at-requires : tie.Need-txid-at-requires
+txid-at-requires c κs = search needs
+
+is-finished-requires : tie.Need-is-finished-requires
+is-finished-requires c κs = search needs
+
+word-at-requires : tie.Need-word-at-requires
+word-at-requires c κs = search needs
+
+returns-2 : tie.Need-returns-2
+returns-2 c = let a = c .before .before .before .before .before .before .before .before .args in trim-stay (finished (a .active .now) (a .doomed)) (a .xmin .now) (a .next .now) (a .h) _ _ (c .before .before .before .place .ensures) (c .before .before .txid-at .ensures) (c .before .before .before .before .if1 .left) (sym (c .before .is-finished .ensures) ∙ c .if2 .taken)
+
+returns-3 : tie.Need-returns-3
+returns-3 c = let a = c .before .before .before .before .before .before .before .before .before .args in trim-next (finished (a .active .now) (a .doomed)) (a .xmin .now) (a .next .now) (a .h) _ _ (c .before .before .before .before .place .ensures) (c .before .before .before .txid-at .ensures) (c .before .before .before .before .before .if1 .left) _ (sym (c .before .before .is-finished .ensures) ∙ c .before .if2 .left) (c .word-at .ensures)
+
+pub trimmed-spec : {M : Type 1} → statement M
+trimmed-spec =
+    tie.close
+    (tie.spec
+    returns
+    place-requires
+    txid-at-requires
+    is-finished-requires
+    word-at-requires
+    returns-2
+    returns-3)

@@ -1,0 +1,16 @@
+-- `callback_refusal` meets its contract, by its tests.
+use Prim.Native.Nat.{_-_}
+use Rattle.steps.proofs.ends.callback_refusal.Statement.{statement}
+use Rattle.steps.proofs.ends.callback_refusal.Tie as tie
+
+returns : tie.Need-returns
+returns c = rw (c .if1 .taken)
+
+returns-2 : tie.Need-returns-2
+returns-2 c = rw (c .before .if1 .left, c .if2 .taken)
+
+returns-3 : tie.Need-returns-3
+returns-3 c = rw (c .before .if1 .left, c .if2 .left)
+
+pub callback-refusal-spec : {M : Type 1} → statement M
+callback-refusal-spec = tie.close (tie.spec returns returns-2 returns-3)

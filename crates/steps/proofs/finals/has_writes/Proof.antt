@@ -1,0 +1,12 @@
+-- `has_writes` meets its contract: the last write is final.
+use Rattle.steps.specs.Finals.{written}
+use Rattle.steps.proofs.Long.{writes-long}
+use Prim.Native.Nat.{_-_}
+use Rattle.steps.proofs.finals.has_writes.Statement.{statement}
+use Rattle.steps.proofs.finals.has_writes.Tie as tie
+
+returns : tie.Need-returns
+returns c = written (c .before .args .x) (writes-long (c .before .args .x) (c .before .good .0))
+
+pub has-writes-spec : {M : Type 1} → statement M
+has-writes-spec = tie.close (tie.spec returns)

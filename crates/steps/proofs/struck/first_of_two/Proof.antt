@@ -1,0 +1,24 @@
+-- `first_of_two` meets its contract: the first gate is struck, or the next decides.
+use native.Mathlib.Numerals.{add-one}
+use Rattle.steps.specs.Stops.{gateFrom}
+use Prim.Native.Nat.{_-_}
+use borrow.Author.Needs.{needs}
+use Rattle.steps.proofs.struck.first_of_two.Statement.{statement}
+use Rattle.steps.proofs.struck.first_of_two.Tie as tie
+
+add-gate-if : tie.Need-add-gate-if
+add-gate-if c = search needs
+
+gate-if-requires : tie.Need-gate-if-requires
+gate-if-requires c κs = search needs
+
+returns : tie.Need-returns
+unfolding gateFrom
+returns c = rw (c .if1 .taken)
+
+returns-2 : tie.Need-returns-2
+unfolding gateFrom
+returns-2 c = rw (c .before .if1 .left, ← add-one (c .before .before .args .gate)) (c .gate-if .ensures)
+
+pub first-of-two-spec : {M : Type 1} → statement M
+first-of-two-spec = tie.close (tie.spec add-gate-if gate-if-requires returns returns-2)

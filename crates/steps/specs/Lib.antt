@@ -1,0 +1,12 @@
+pub mod Lent
+pub mod First
+pub mod Pad
+pub mod Active
+pub mod Slots
+pub mod Faults
+pub mod Conflicts
+pub mod Finals
+pub mod Stops
+pub mod Answers
+pub mod Ends
+pub mod Whole

@@ -1,0 +1,93 @@
+// The record and the events that commit answers.
+
+ghost use mathlib.Core.Path.{_≡_};
+ghost use Rattle.rules.specs.Answer.{noRecord, noEvents};
+ghost use Rattle.steps.specs.Answers.{recordIf, eventsBy};
+use super::ends::Ending;
+use super::finals::final_writes;
+use super::logic::both;
+use super::logic::either;
+use types::Events;
+use types::Record;
+use types::Refusal;
+use types::Tx;
+use types::Txid;
+use types::Write;
+
+pub fn no_record() -> Record
+    ensures { λ r. ⌜ r ≡ noRecord ⌝ }
+{
+    Record {
+        txid: Txid::NONE,
+        writes: [Write::NONE; Tx::WRITES],
+        count: 0,
+    }
+}
+
+// The record is zero unless the commit is done: then it names the transaction and its final writes.
+pub fn record_of(done: bool, x: Tx) -> Record
+    ensures { λ r. ⌜ r ≡ recordIf done x ⌝ }
+{
+    if done {
+        let finals = final_writes(x);
+        let txid = x.txid;
+        let writes = finals.at;
+        Record {
+            txid: txid,
+            writes: writes,
+            count: finals.count,
+        }
+    } else {
+        no_record()
+    }
+}
+
+// The flags of a run that passed `passed` steps and ended so.
+pub fn events_of(logged: bool, bound: bool, writing: bool, passed: usize, end: Ending) -> Events
+    ensures { λ r. ⌜ r ≡ eventsBy logged bound writing passed end ⌝ }
+{
+    let unlogged_write = both(!logged, both(writing, 8 <= passed));
+    let record = both(logged, 5 <= passed);
+    let payload = both(logged, 6 <= passed);
+    let destinations = both(15 <= passed, !end.undone);
+    let callback = both(logged, 16 <= passed);
+    let deregistered = either(21 <= passed, end.dropped);
+    Events {
+        index_locked: false,
+        partition_locked: false,
+        index_validated: 11 <= passed,
+        row_lock_validated: 12 <= passed,
+        serial_validated: 13 <= passed,
+        base_validated: 14 <= passed,
+        write_ahead: logged,
+        durably_bound: bound,
+        has_writes: writing,
+        unlogged_write_checked: unlogged_write,
+        health_checked: 10 <= passed,
+        health_cleanup_required: false,
+        record_prepared: record,
+        payload_prepared: payload,
+        preparation_cleanup_required: end.cleanup,
+        destinations_prepared: destinations,
+        callback_complete: callback,
+        prepared: 17 <= passed,
+        rows_published: 17 <= passed,
+        deregistered: deregistered,
+        stamped: 22 <= passed,
+        poisoned: end.poisoned,
+    }
+}
+
+// Zero on 1, 2, 3 and 18.
+pub fn no_events() -> Events
+    ensures { λ r. ⌜ r ≡ noEvents ⌝ }
+{
+    let end = Ending {
+        refusal: Refusal::Done,
+        poisoned: false,
+        cleanup: false,
+        undone: false,
+        dropped: false,
+    };
+    events_of(false, false, false, 0, end)
+}

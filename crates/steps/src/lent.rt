@@ -1,0 +1,61 @@
+// Counts and lent arrays, read within their bounds.
+
+ghost use mathlib.Core.Path.{_≡_};
+ghost use mathlib.Core.Bool.{false};
+ghost use Prim.Native.Nat.{min};
+ghost use lib.ListN.{getD};
+ghost use Rattle.steps.specs.Lent.{atRows, atPlaces, flagsAtPlaces, atStripes};
+use types::RowId;
+use types::SlotPtr;
+use types::Store;
+use types::Txid;
+
+// The places of a list of `count` elements in an array of `limit` places.
+pub fn clipped(count: usize, limit: usize) -> usize
+    ensures { λ r. ⌜ r ≡ min count limit ⌝ }
+{
+    if count < limit { count } else { limit }
+}
+
+// The head of a row, null for a row too high.
+pub fn head_of(heads: &[u32; RowId::ROWS], r: RowId) -> SlotPtr
+    ensures { λ p. ⌜ p .0 ≡ getD (atRows (now (heads .entry))) (r .0) 0 ⌝ }
+{
+    let i = r.0;
+    if i < RowId::ROWS {
+        SlotPtr(heads[i])
+    } else {
+        SlotPtr::NULL
+    }
+}
+
+// What stands at a slot's place, zero for a slot that is none: a txid, a flag.
+pub fn txid_at(txids: &[u64; SlotPtr::PLACES], p: SlotPtr) -> Txid
+    ensures { λ t. ⌜ t .0 ≡ getD (atPlaces (now (txids .entry))) (p .0) 0 ⌝ }
+{
+    let i = p.0 as usize;
+    if i < SlotPtr::PLACES {
+        Txid(txids[i])
+    } else {
+        Txid::NONE
+    }
+}
+
+pub fn flag_at(flags: &[bool; SlotPtr::PLACES], p: SlotPtr) -> bool
+    ensures { λ b. ⌜ b ≡ getD (flagsAtPlaces (now (flags .entry))) (p .0) false ⌝ }
+{
+    let i = p.0 as usize;
+    if i < SlotPtr::PLACES { flags[i] } else { false }
+}
+
+// The stamp of a stripe, none for a stripe too high.
+pub fn stamp_at(stamps: &[u64; Store::STRIPES], stripe: u32) -> Txid
+    ensures { λ t. ⌜ t .0 ≡ getD (atStripes (now (stamps .entry))) stripe 0 ⌝ }
+{
+    let i = stripe as usize;
+    if i < Store::STRIPES {
+        Txid(stamps[i])
+    } else {
+        Txid::NONE
+    }
+}
