@@ -1,0 +1,57 @@
+-- `abort` meets its contract: as its tests find it, and with the puts that it plans applied.
+use mathlib.Core.Path.{sym, _∙_}
+use borrow.Author.Tests.{not-true, not-false}
+use native.Mathlib.Omega.{arith}
+use Rattle.journal.specs.Adds.{adds-all}
+use Rattle.journal.specs.Applied.{apply-held}
+use Rattle.types.specs.Limits.{places}
+use Rattle.admit.proofs.Lengths.{sized}
+use Rattle.look.specs.Lent.{array-length, atRows, atPlaces}
+use Rattle.calls.specs.Abort.{abort-few, abort-refused, abort-done}
+use borrow.Author.Needs.{needs}
+use Rattle.calls.proofs.abort.abort.Statement.{statement}
+use Rattle.calls.proofs.abort.abort.Tie as tie
+
+admits-requires : tie.Need-admits-requires
+admits-requires c κs = search needs
+
+is-done-requires : tie.Need-is-done-requires
+is-done-requires c κs = search needs
+
+returns : tie.Need-returns
+returns c =
+    let t = c .before in
+    let s = t .before .before in
+    abort-refused (s .args .t1) (s .args .x) (t .before .admits .ensures) (sym (t .is-done .ensures) ∙ not-true _ (c .if1 .taken))
+
+plan-abort-requires : tie.Need-plan-abort-requires
+plan-abort-requires c κs = search needs
+
+only-txid-requires : tie.Need-only-txid-requires
+only-txid-requires c κs = search needs
+
+apply-requires : tie.Need-apply-requires
+apply-requires c κs = search needs
+
+returns-2 : tie.Need-returns-2
+returns-2 c =
+    let t = c .before .before .before .before .before .before .before .before .before .before in
+    let s = t .before .before in
+    let S = s .args .t1 in
+    let few = abort-few (atRows (S .heads)) (atPlaces (S .next)) (atPlaces (S .xmin)) (s .args .x .txid .0) in
+    let long = array-length places 0 (S .xmin) in
+    abort-done S (s .args .x) (t .before .admits .ensures) (sized S (s .good .0)) (sym (t .is-done .ensures) ∙ not-false _ (c .before .before .before .before .before .before .before .before .before .if1 .left))
+    (c .apply .ensures ∙ apply-held _ (adds-all (c .before .before .before .plan-abort .ensures) (omega arith)))
+    (c .before .before .only-txid .ensures)
+
+pub abort-spec : {M : Type 1} → statement M
+abort-spec =
+    tie.close
+    (tie.spec
+    admits-requires
+    is-done-requires
+    returns
+    plan-abort-requires
+    only-txid-requires
+    apply-requires
+    returns-2)

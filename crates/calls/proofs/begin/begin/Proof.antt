@@ -1,0 +1,60 @@
+-- `begin` meets its contract: as its tests find it, and with the puts that it plans applied.
+use mathlib.Core.Path.{sym, _∙_}
+use borrow.Author.Tests.{not-true, not-false}
+use lib.Dec.{lit≤}
+use Rattle.journal.specs.Adds.{adds-all}
+use Rattle.journal.specs.Applied.{apply-held}
+use Rattle.admit.proofs.Lengths.{sized}
+use Rattle.calls.specs.Begin.{begin-why, begin-clock, begin-refused, begin-done}
+use borrow.Author.Needs.{needs}
+use Rattle.calls.proofs.begin.begin.Statement.{statement}
+use Rattle.calls.proofs.begin.begin.Tie as tie
+
+resting-requires : tie.Need-resting-requires
+resting-requires c κs = search needs
+
+begin-refusal-requires : tie.Need-begin-refusal-requires
+begin-refusal-requires c κs = search needs
+
+is-done-requires : tie.Need-is-done-requires
+is-done-requires c κs = search needs
+
+zero-requires : tie.Need-zero-requires
+zero-requires c κs = search needs
+
+returns : tie.Need-returns
+returns c =
+    let t = c .before .before in
+    let s = t .before .before .before .before .before in
+    begin-refused (s .args .t1) _ (begin-why _ (sized (s .args .t1) (s .good .0)) _ _ (t .before .before .before .before .resting .ensures) (t .before .begin-refusal .ensures)) (sym (t .is-done .ensures) ∙ not-true _ (c .before .if1 .taken)) (c .zero .ensures)
+
+plan-begin-requires : tie.Need-plan-begin-requires
+plan-begin-requires c κs = let t = c .before .before in begin-clock _ _ _ _ _ (t .before .begin-refusal .ensures) (sym (t .is-done .ensures) ∙ not-false _ (c .before .if1 .left))
+
+begun-requires : tie.Need-begun-requires
+begun-requires c κs = search needs
+
+apply-requires : tie.Need-apply-requires
+apply-requires c κs = search needs
+
+returns-2 : tie.Need-returns-2
+returns-2 c =
+    let t = c .before .before .before .before .before .before .before in
+    let s = t .before .before .before .before .before in
+    begin-done (s .args .t1) _ (begin-why _ (sized (s .args .t1) (s .good .0)) _ _ (t .before .before .before .before .resting .ensures) (t .before .begin-refusal .ensures)) (sym (t .is-done .ensures) ∙ not-false _ (c .before .before .before .before .before .before .if1 .left))
+    (c .apply .ensures ∙ apply-held _ (adds-all (c .before .before .before .before .plan-begin .ensures) (lit≤ tt)))
+    (c .before .before .begun .ensures (sized (s .args .t1) (s .good .0) .active))
+
+pub begin-spec : {M : Type 1} → statement M
+begin-spec =
+    tie.close
+    (tie.spec
+    resting-requires
+    begin-refusal-requires
+    is-done-requires
+    zero-requires
+    returns
+    plan-begin-requires
+    begun-requires
+    apply-requires
+    returns-2)

@@ -1,0 +1,69 @@
+-- `row_lock` meets its contract: as its tests find it, and with the put that it plans applied.
+use mathlib.Core.Path.{sym, _∙_}
+use borrow.Author.Tests.{not-true, not-false}
+use native.Mathlib.Omega.{arith}
+use lib.Dec.{lit≤}
+use Rattle.journal.specs.Adds.{adds-all}
+use Rattle.journal.specs.Applied.{apply-held}
+use Rattle.admit.proofs.Lengths.{sized}
+use Rattle.calls.specs.Lock.{lock-refused, lock-placed, lock-done}
+use borrow.Author.Needs.{needs}
+use Rattle.calls.proofs.lock.row_lock.Statement.{statement}
+use Rattle.calls.proofs.lock.row_lock.Tie as tie
+
+head-of-requires : tie.Need-head-of-requires
+head-of-requires c κs = search needs
+
+locked-by-another-requires : tie.Need-locked-by-another-requires
+locked-by-another-requires c κs = search needs
+
+admits-requires : tie.Need-admits-requires
+admits-requires c κs = search needs
+
+healthy-requires : tie.Need-healthy-requires
+healthy-requires c κs = search needs
+
+lock-refusal-requires : tie.Need-lock-refusal-requires
+lock-refusal-requires c κs = search needs
+
+is-done-requires : tie.Need-is-done-requires
+is-done-requires c κs = search needs
+
+returns : tie.Need-returns
+returns c =
+    let t = c .before in
+    let l = t .before .before .before .before in
+    let h = l .before .before .before .before .before in
+    let s = h .before .before .before in
+    lock-refused (s .args .t1) (s .args .x) _ (sized (s .args .t1) (s .good .0)) (h .head-of .ensures) (l .locked-by-another .ensures) (t .before .before .before .admits .ensures) (t .before .before .healthy .ensures) (t .before .lock-refusal .ensures) (sym (t .is-done .ensures) ∙ not-true _ (c .if1 .taken))
+
+plan-lock-requires : tie.Need-plan-lock-requires
+plan-lock-requires c κs = search needs
+
+apply-requires : tie.Need-apply-requires
+apply-requires c κs = search needs
+
+returns-2 : tie.Need-returns-2
+returns-2 c =
+    let t = c .before .before .before .before .before in
+    let l = t .before .before .before .before in
+    let h = l .before .before .before .before .before in
+    let s = h .before .before .before in
+    let done = (sym (t .is-done .ensures) ∙ not-false _ (c .before .before .before .before .if1 .left)) in
+    let placed = lock-placed (s .args .t1) (s .args .x) _ (sized (s .args .t1) (s .good .0)) (h .head-of .ensures) (l .locked-by-another .ensures) (t .before .before .before .admits .ensures) (t .before .before .healthy .ensures) (t .before .lock-refusal .ensures) done in
+    lock-done (s .args .t1) (s .args .x) _ (sized (s .args .t1) (s .good .0)) (h .head-of .ensures) (l .locked-by-another .ensures) (t .before .before .before .admits .ensures) (t .before .before .healthy .ensures) (t .before .lock-refusal .ensures) done (c .apply .ensures ∙ apply-held _ (adds-all (c .before .before .plan-lock .ensures (omega arith)) (lit≤ tt)))
+
+pub row-lock-spec : {M : Type 1} → statement M
+row-lock-spec =
+    tie.close
+    (tie.spec
+    head-of-requires
+    locked-by-another-requires
+    admits-requires
+    healthy-requires
+    lock-refusal-requires
+    is-done-requires
+    returns
+    plan-lock-requires
+    apply-requires
+    returns-2)

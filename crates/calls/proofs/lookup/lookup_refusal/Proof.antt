@@ -1,0 +1,25 @@
+-- `lookup_refusal` meets its contract.
+use mathlib.Core.Path.{sym, _∙_}
+use borrow.Author.Tests.{not-true, not-false}
+use Rattle.calls.specs.Refused.{unless-kept, unless-more}
+use Rattle.calls.specs.Lookup.{lookupTries}
+use borrow.Author.Needs.{needs}
+use Rattle.calls.proofs.lookup.lookup_refusal.Statement.{statement}
+use Rattle.calls.proofs.lookup.lookup_refusal.Tie as tie
+
+is-done-requires : tie.Need-is-done-requires
+is-done-requires c κs = search needs
+
+returns : tie.Need-returns
+returns c = unless-kept _ _ (sym (c .before .is-done .ensures) ∙ not-true _ (c .if1 .taken))
+
+returns-2 : tie.Need-returns-2
+unfolding lookupTries
+returns-2 c = unless-more _ _ _ (sym (c .before .before .is-done .ensures) ∙ not-false _ (c .before .if1 .left)) (rw (c .if2 .taken))
+
+returns-3 : tie.Need-returns-3
+unfolding lookupTries
+returns-3 c = unless-more _ _ _ (sym (c .before .before .is-done .ensures) ∙ not-false _ (c .before .if1 .left)) (rw (c .if2 .left))
+
+pub lookup-refusal-spec : {M : Type 1} → statement M
+lookup-refusal-spec = tie.close (tie.spec is-done-requires returns returns-2 returns-3)

@@ -1,0 +1,74 @@
+-- `write` meets its contract: as its tests find it, and with the puts that it plans applied.
+use mathlib.Core.Path.{sym, _∙_}
+use borrow.Author.Tests.{not-true, not-false}
+use native.Mathlib.Omega.{arith}
+use Rattle.journal.specs.Adds.{adds-all}
+use Rattle.journal.specs.Applied.{apply-held}
+use Rattle.admit.proofs.Lengths.{sized}
+use Rattle.calls.specs.Write.{takes-few, write-refused, write-placed, write-done}
+use borrow.Author.Needs.{needs}
+use Rattle.calls.proofs.write.write.Statement.{statement}
+use Rattle.calls.proofs.write.write.Tie as tie
+
+lowest-free-requires : tie.Need-lowest-free-requires
+lowest-free-requires c κs = search needs
+
+admits-requires : tie.Need-admits-requires
+admits-requires c κs = search needs
+
+healthy-requires : tie.Need-healthy-requires
+healthy-requires c κs = search needs
+
+write-refusal-requires : tie.Need-write-refusal-requires
+write-refusal-requires c κs = search needs
+
+is-done-requires : tie.Need-is-done-requires
+is-done-requires c κs = search needs
+
+returns : tie.Need-returns
+returns c =
+    let t = c .before in
+    let f = t .before .before .before .before in
+    let s = f .before .before .before in
+    write-refused (s .args .t1) (s .args .x) _ (s .args .v) (sized (s .args .t1) (s .good .0)) (f .lowest-free .ensures) (t .before .before .before .admits .ensures) (t .before .before .healthy .ensures) (t .before .write-refusal .ensures) (sym (t .is-done .ensures) ∙ not-true _ (c .if1 .taken))
+
+base-of-requires : tie.Need-base-of-requires
+base-of-requires c κs = search needs
+
+plan-write-requires : tie.Need-plan-write-requires
+plan-write-requires c κs = search needs
+
+with-write-requires : tie.Need-with-write-requires
+with-write-requires c κs = search needs
+
+apply-requires : tie.Need-apply-requires
+apply-requires c κs = search needs
+
+returns-2 : tie.Need-returns-2
+returns-2 c =
+    let t = c .before .before .before .before .before .before .before .before .before .before .before in
+    let f = t .before .before .before .before in
+    let s = f .before .before .before in
+    let placed = write-placed (s .args .t1) (s .args .x) _ (s .args .v) (sized (s .args .t1) (s .good .0)) (f .lowest-free .ensures) (t .before .before .before .admits .ensures) (t .before .before .healthy .ensures) (t .before .write-refusal .ensures) in
+    let few = takes-few (f .lowest-free .result .0) (s .args .x .txid .0) (c .before .before .before .before .before .base-of .result .0) (s .args .v) in
+    write-done (s .args .t1) (s .args .x) _ (s .args .v) (sized (s .args .t1) (s .good .0)) (f .lowest-free .ensures) (t .before .before .before .admits .ensures) (t .before .before .healthy .ensures) (t .before .write-refusal .ensures)
+    (sym (t .is-done .ensures) ∙ not-false _ (c .before .before .before .before .before .before .before .before .before .before .if1 .left))
+    (c .before .before .before .before .before .base-of .ensures)
+    (c .apply .ensures ∙ apply-held _ (adds-all (c .before .before .before .plan-write .ensures (omega arith)) few))
+    (c .before .before .with-write .ensures)
+
+pub write-spec : {M : Type 1} → statement M
+write-spec =
+    tie.close
+    (tie.spec
+    lowest-free-requires
+    admits-requires
+    healthy-requires
+    write-refusal-requires
+    is-done-requires
+    returns
+    base-of-requires
+    plan-write-requires
+    with-write-requires
+    apply-requires
+    returns-2)

@@ -1,0 +1,91 @@
+// Row lock.
+
+ghost use mathlib.Core.Path.{_≡_};
+ghost use Prim.Native.Nat.{_<_};
+ghost use lib.ListN.{getD};
+ghost use mathlib.Core.List.{[], _∷_};
+ghost use Rattle.rules.specs.Puts.{putLock};
+ghost use Rattle.rules.specs.Calls.{rowLock};
+ghost use Rattle.journal.specs.Journal.{placeBase};
+ghost use Rattle.journal.specs.Adds.{Adds};
+ghost use Rattle.look.specs.Lent.{atRows};
+ghost use Rattle.calls.specs.Refused.{unless};
+ghost use Rattle.calls.specs.Lock.{lockTries};
+use super::admission::admits;
+use super::refusal::healthy;
+use super::refusal::is_done;
+use journal::Journal;
+use journal::Kind;
+use look::slots::locked_by_another;
+use types::Fate;
+use types::Refusal;
+use types::Reply;
+use types::RowId;
+use types::SlotPtr;
+use types::Store;
+use types::Tx;
+use types::Txid;
+
+// The head of a row, null for a row too high.
+fn head_of(heads: &[u32; RowId::ROWS], r: RowId) -> SlotPtr
+    ensures { λ p. ⌜ p .0 ≡ getD (atRows (now (heads .entry))) (r .0) 0 ⌝ }
+{
+    let i = r.0;
+    if i < RowId::ROWS {
+        SlotPtr(heads[i])
+    } else {
+        SlotPtr::NULL
+    }
+}
+
+// Numbers 23, 27 and 28, if nothing was refused before.
+fn lock_refusal(first: Refusal, r: RowId, head: SlotPtr, locked: bool) -> Refusal
+    ensures { λ q. ⌜ q ≡ unless first (lockTries (r .0) locked (head .0)) ⌝ }
+{
+    if !is_done(first) {
+        return first;
+    }
+    if RowId::ROWS <= r.0 {
+        return Refusal::RowTooHigh(Fate::Open);
+    }
+    if locked {
+        return Refusal::LockedByAnother(Fate::Open);
+    }
+    if head.0 == 0 {
+        return Refusal::NoHead(Fate::Open);
+    }
+    Refusal::Done
+}
+
+// The lock on the head.
+fn plan_lock(head: SlotPtr, t: Txid, j: &mut [u64; Journal::WORDS]) -> usize
+    ensures { λ n. ⌜ (head .0 < placeBase → Adds (now (j .entry)) 0 (putLock (head .0) (t .0) ∷ []) (now (j .exit)) n) ⌝ }
+{
+    journal::push(j, 0, Kind::LOCK, head.0 as usize, t.0)
+}
+
+// Locks the head of a row; a lock whose owner isn't active is void.
+pub fn row_lock(s: Store, x: Tx, r: RowId) -> Reply
+    ensures { λ q. ⌜ q ≡ rowLock s x (r .0) ⌝ }
+{
+    let head = head_of(&s.heads, r);
+    let locked = locked_by_another(&s.locked, &s.owner, &s.active, x.txid, head);
+    let admitted = admits(s, x);
+    let first = healthy(admitted, s.poisoned);
+    let why = lock_refusal(first, r, head, locked);
+    if !is_done(why) {
+        return Reply {
+            refusal: why,
+            store: s,
+            tx: x,
+        };
+    }
+    let mut j = [0; Journal::WORDS];
+    let n = plan_lock(head, x.txid, &mut j);
+    let t = journal::apply(s, &j, n);
+    Reply {
+        refusal: why,
+        store: t,
+        tx: x,
+    }
+}

@@ -1,0 +1,81 @@
+// Lookup.
+
+ghost use mathlib.Core.Path.{_≡_};
+ghost use mathlib.Core.Bool.{false};
+ghost use mathlib.Core.List.{List};
+ghost use Rattle.rules.specs.Types.{ReadRecord};
+ghost use Rattle.rules.specs.Calls.{lookup};
+ghost use Rattle.look.specs.Lent.{atStripes};
+ghost use Rattle.look.specs.Reads.{laid};
+ghost use Rattle.calls.specs.Refused.{unless};
+ghost use Rattle.calls.specs.Lookup.{lookupTries, looked};
+use super::admission::admits;
+use super::refusal::healthy;
+use super::refusal::is_done;
+use look::candidates::candidates;
+use look::changed::with_index_reads;
+use look::changed::with_reads;
+use look::lookup::matching;
+use look::lookup::record_marked;
+use look::reads::ReadList;
+use look::stamps::index_conflict;
+use look::stamps::record_stamp;
+use look::stamps::stamp_of;
+use types::Fate;
+use types::Found;
+use types::Refusal;
+use types::RowId;
+use types::Store;
+use types::Tx;
+
+// Number 24, if nothing was refused before.
+fn lookup_refusal(first: Refusal, over: bool) -> Refusal
+    ensures { λ q. ⌜ q ≡ unless first (lookupTries over) ⌝ }
+{
+    if !is_done(first) {
+        return first;
+    }
+    if over {
+        return Refusal::ReadsFull(Fate::Open);
+    }
+    Refusal::Done
+}
+
+// The transaction with its reads those of the list, and the stamp of the key's stripe recorded.
+fn looked(stamps: &[u64; Store::STRIPES], x: Tx, l: ReadList, k: u32) -> Tx
+    ensures { λ y. ⌜ ((m : List ReadRecord) → l ≡ laid m → l .over ≡ false → y ≡ looked (atStripes (now (stamps .entry))) x m k) ⌝ }
+{
+    let t = stamp_of(stamps, k);
+    let q = record_stamp(x, k % (Store::STRIPES as u32), t);
+    let conflict = index_conflict(x, t);
+    let y = with_reads(x, l);
+    with_index_reads(y, q, conflict)
+}
+
+// The rows whose read value is the key, rising; every candidate is recorded as by a read.
+pub fn lookup(s: Store, x: Tx, k: u32) -> Found
+    ensures { λ q. ⌜ q ≡ lookup s x k ⌝ }
+{
+    let marks = candidates(&s.postings, s.posting_count, x, k);
+    let l = record_marked(&s.heads, &s.next, &s.xmin, &marks, x);
+    let admitted = admits(s, x);
+    let first = healthy(admitted, s.poisoned);
+    let why = lookup_refusal(first, l.over);
+    if !is_done(why) {
+        return Found {
+            refusal: why,
+            rows: [RowId(0); RowId::ROWS],
+            count: 0,
+            tx: x,
+        };
+    }
+    let found = matching(&s.heads, &s.next, &s.xmin, &s.key, &s.has, &marks, x, k);
+    let y = looked(&s.stamps, x, l, k);
+    let rows = found.at;
+    Found {
+        refusal: why,
+        rows,
+        count: found.count,
+        tx: y,
+    }
+}

@@ -1,0 +1,61 @@
+// Read.
+
+ghost use mathlib.Core.Path.{_≡_};
+ghost use Rattle.rules.specs.Calls.{read};
+ghost use Rattle.calls.specs.Refused.{unless};
+ghost use Rattle.calls.specs.Read.{readTries};
+use super::admission::admits;
+use super::refusal::healthy;
+use super::refusal::is_done;
+use look::changed::with_reads;
+use look::found::read_ptr;
+use look::reads::with_read;
+use look::slots::value_at;
+use types::Fate;
+use types::Refusal;
+use types::RowId;
+use types::Seen;
+use types::Store;
+use types::Tx;
+use types::Value;
+
+// Numbers 23 and 24, if nothing was refused before.
+fn read_refusal(first: Refusal, r: RowId, over: bool) -> Refusal
+    ensures { λ q. ⌜ q ≡ unless first (readTries (r .0) over) ⌝ }
+{
+    if !is_done(first) {
+        return first;
+    }
+    if RowId::ROWS <= r.0 {
+        return Refusal::RowTooHigh(Fate::Open);
+    }
+    if over {
+        return Refusal::ReadsFull(Fate::Open);
+    }
+    Refusal::Done
+}
+
+// The value of the last own write, else of the first visible version, which is recorded.
+pub fn read(s: Store, x: Tx, r: RowId) -> Seen
+    ensures { λ q. ⌜ q ≡ read s x (r .0) ⌝ }
+{
+    let l = with_read(&s.heads, &s.next, &s.xmin, x, r);
+    let admitted = admits(s, x);
+    let first = healthy(admitted, s.poisoned);
+    let why = read_refusal(first, r, l.over);
+    if !is_done(why) {
+        return Seen {
+            refusal: why,
+            value: Value::Absent,
+            tx: x,
+        };
+    }
+    let p = read_ptr(&s.heads, &s.next, &s.xmin, x, r);
+    let v = value_at(&s.key, &s.has, p);
+    let y = with_reads(x, l);
+    Seen {
+        refusal: why,
+        value: v,
+        tx: y,
+    }
+}

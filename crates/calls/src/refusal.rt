@@ -1,0 +1,30 @@
+// Refusals: the first test that holds says why.
+
+ghost use mathlib.Core.Path.{_≡_};
+ghost use Rattle.rules.specs.Numbers.{isDone};
+ghost use Rattle.calls.specs.Refused.{unless, poisonedTries};
+use types::Fate;
+use types::Refusal;
+
+// Nothing was refused.
+pub fn is_done(why: Refusal) -> bool
+    ensures { λ r. ⌜ r ≡ isDone why ⌝ }
+{
+    match why {
+        Refusal::Done => true,
+        _ => false,
+    }
+}
+
+// Number 9, if nothing was refused before.
+pub fn healthy(first: Refusal, poisoned: bool) -> Refusal
+    ensures { λ r. ⌜ r ≡ unless first (poisonedTries poisoned) ⌝ }
+{
+    if !is_done(first) {
+        return first;
+    }
+    if poisoned {
+        return Refusal::FoundPoisoned(Fate::Open);
+    }
+    Refusal::Done
+}

@@ -1,0 +1,102 @@
+// Write.
+
+ghost use mathlib.Core.Path.{_≡_};
+ghost use Prim.Native.Nat.{_<_};
+ghost use Rattle.rules.specs.Puts.{takeSlot};
+ghost use Rattle.rules.specs.Calls.{write};
+ghost use Rattle.journal.specs.Journal.{placeBase};
+ghost use Rattle.journal.specs.Adds.{Adds};
+ghost use Rattle.calls.specs.Refused.{unless};
+ghost use Rattle.calls.specs.Write.{writeTries};
+use super::admission::admits;
+use super::refusal::healthy;
+use super::refusal::is_done;
+use journal::Journal;
+use journal::Kind;
+use look::changed::with_write;
+use look::found::base_of;
+use look::slots::lowest_free;
+use types::Fate;
+use types::Refusal;
+use types::RowId;
+use types::SlotPtr;
+use types::Store;
+use types::Tx;
+use types::Txid;
+use types::Value;
+use types::Write;
+use types::Written;
+
+// Numbers 23, 25 and 26, if nothing was refused before.
+fn write_refusal(first: Refusal, r: RowId, writes: usize, free: SlotPtr) -> Refusal
+    ensures { λ q. ⌜ q ≡ unless first (writeTries (r .0) writes (free .0)) ⌝ }
+{
+    if !is_done(first) {
+        return first;
+    }
+    if RowId::ROWS <= r.0 {
+        return Refusal::RowTooHigh(Fate::Open);
+    }
+    if Tx::WRITES <= writes {
+        return Refusal::WritesFull(Fate::Open);
+    }
+    if free.0 == 0 {
+        return Refusal::SlotsFull(Fate::Open);
+    }
+    Refusal::Done
+}
+
+// The slot taken for a version of t over its base.
+fn plan_write(
+    slot: SlotPtr,
+    t: Txid,
+    base: SlotPtr,
+    v: Value,
+    j: &mut [u64; Journal::WORDS],
+) -> usize
+    ensures { λ n. ⌜ (slot .0 < placeBase → Adds (now (j .entry)) 0 (takeSlot (slot .0) (t .0) (base .0) v) (now (j .exit)) n) ⌝ }
+{
+    let at = slot.0 as usize;
+    let n = journal::push(j, 0, Kind::XMIN, at, t.0);
+    let m = journal::push(j, n, Kind::NEXT, at, base.0 as u64);
+    match v {
+        Value::Absent => m,
+        Value::Key(k) => journal::push(j, m, Kind::KEY, at, k as u64),
+    }
+}
+
+// Takes the lowest free slot for a new version over the found one, and records no read.
+pub fn write(s: Store, x: Tx, r: RowId, v: Value) -> Written
+    ensures { λ q. ⌜ q ≡ write s x (r .0) v ⌝ }
+{
+    let free = lowest_free(&s.xmin);
+    let admitted = admits(s, x);
+    let first = healthy(admitted, s.poisoned);
+    let why = write_refusal(first, r, x.write_count, free);
+    if !is_done(why) {
+        return Written {
+            refusal: why,
+            slot: SlotPtr::NULL,
+            store: s,
+            tx: x,
+        };
+    }
+    let base = base_of(&s.heads, &s.next, &s.xmin, x, r);
+    let mut j = [0; Journal::WORDS];
+    let n = plan_write(free, x.txid, base, v, &mut j);
+    let y = with_write(
+        x,
+        Write {
+            row: r,
+            base,
+            new: free,
+        },
+    );
+    let t = journal::apply(s, &j, n);
+    Written {
+        refusal: why,
+        slot: free,
+        store: t,
+        tx: y,
+    }
+}
