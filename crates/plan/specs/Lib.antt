@@ -8,3 +8,6 @@ pub mod Own
 pub mod Few
 pub mod Blocks
 pub mod Room
+pub mod Parts
+pub mod Planned
+pub mod Ends

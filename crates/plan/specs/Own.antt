@@ -18,7 +18,7 @@ use Rattle.rules.specs.Transaction.{finals}
 use Rattle.rules.specs.Chains.{walk}
 use Rattle.rules.specs.Puts.{ownSlots}
 use Rattle.rules.specs.Changes.{recycled}
-use Rattle.look.specs.Lent.{atPlaces, array-next, array-end}
+use Rattle.look.specs.Lent.{atPlaces, array-cons, array-end}
 use Rattle.look.specs.Slots.{ownSlot, own-slots}
 use Rattle.plan.specs.Marks.{markAll, markedFrom, mark-length, marks-in-order}
 
@@ -42,15 +42,15 @@ module _ (xmin seen : List ℕ) (t i : ℕ) where
   module _ (lt : i < places) where
     pub own-free : getD xmin i 0 ≡ 0 → ownFrom (atPlaces xmin) seen t i ≡ ownFrom (atPlaces xmin) seen t (i + 1)
     unfolding ownFrom
-    own-free e = rw (array-next places 0 xmin i lt, e, add-one)
+    own-free e = rw (array-cons places 0 xmin i lt, e, add-one)
 
     pub own-not : (getD xmin i 0 ≡ 0 → ⊥) → {b : Bool} → b ≡ ownSlot (atPlaces xmin) seen t i → b ≡ false → ownFrom (atPlaces xmin) seen t i ≡ ownFrom (atPlaces xmin) seen t (i + 1)
     unfolding ownFrom
-    own-not n e f = rw (array-next places 0 xmin i lt, ne-eqb (getD xmin i 0) 0 n, ← e, f, add-one)
+    own-not n e f = rw (array-cons places 0 xmin i lt, ne-eqb (getD xmin i 0) 0 n, ← e, f, add-one)
 
     pub own-here : (getD xmin i 0 ≡ 0 → ⊥) → {b : Bool} → b ≡ ownSlot (atPlaces xmin) seen t i → b ≡ true → ownFrom (atPlaces xmin) seen t i ≡ i ∷ ownFrom (atPlaces xmin) seen t (i + 1)
     unfolding ownFrom
-    own-here n e f = rw (array-next places 0 xmin i lt, ne-eqb (getD xmin i 0) 0 n, ← e, f, add-one)
+    own-here n e f = rw (array-cons places 0 xmin i lt, ne-eqb (getD xmin i 0) 0 n, ← e, f, add-one)
 
 -- rising lists: from a lower number on, filtered, in order
 rising-lower : (lo hi : ℕ) (l : List ℕ) → lo ≤ hi → rising hi l ≡ true → rising lo l ≡ true

@@ -6,3 +6,4 @@ pub mod moves;
 pub mod own;
 mod publish;
 mod pushes;
+pub mod run;

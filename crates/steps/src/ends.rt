@@ -1,9 +1,9 @@
 // How a run of commit ends at each gate.
 
 ghost use mathlib.Core.Path.{_≡_};
-ghost use mathlib.Core.Bool.{cond, _||_};
+ghost use mathlib.Core.Bool.{true, false, cond, _||_};
 ghost use lib.ListN.{getD};
-ghost use Rattle.rules.specs.Types.{CallbackFailed, CallbackPanicked, CleanupFailed};
+ghost use Rattle.rules.specs.Types.{Closed, Undone, PrepareFailed, PreparePanicked, Conflict, FoundPoisoned, CallbackFailed, CallbackPanicked, CleanupFailed};
 ghost use Rattle.rules.specs.Numbers.{fate};
 ghost use Rattle.rules.specs.Faults.{P, X, Q};
 ghost use Rattle.types.specs.Zero.{onlyTxid};
@@ -187,6 +187,55 @@ fn aborts(failed: bool, why: Refusal, instead: Refusal, found: bool, preparing: 
     }
 }
 
+// Where the abort failed, 5 and 9 become number 19; 6 and 7 stay.
+fn prepare_failed(failed: bool) -> Ending
+    ensures { λ e. ⌜ e ≡ abortEnding failed (PrepareFailed Closed) (CleanupFailed Undone) false true ⌝ }
+{
+    aborts(
+        failed,
+        Refusal::PrepareFailed(Fate::Closed),
+        Refusal::CleanupFailed(Fate::Undone),
+        false,
+        true,
+    )
+}
+
+fn prepare_panicked(failed: bool) -> Ending
+    ensures { λ e. ⌜ e ≡ abortEnding failed (PreparePanicked Closed) (PreparePanicked Undone) false true ⌝ }
+{
+    aborts(
+        failed,
+        Refusal::PreparePanicked(Fate::Closed),
+        Refusal::PreparePanicked(Fate::Undone),
+        false,
+        true,
+    )
+}
+
+fn conflict(failed: bool) -> Ending
+    ensures { λ e. ⌜ e ≡ abortEnding failed (Conflict Closed) (Conflict Undone) false false ⌝ }
+{
+    aborts(
+        failed,
+        Refusal::Conflict(Fate::Closed),
+        Refusal::Conflict(Fate::Undone),
+        false,
+        false,
+    )
+}
+
+fn found_poisoned(failed: bool, found: bool) -> Ending
+    ensures { λ e. ⌜ e ≡ abortEnding failed (FoundPoisoned Closed) (CleanupFailed Undone) found false ⌝ }
+{
+    aborts(
+        failed,
+        Refusal::FoundPoisoned(Fate::Closed),
+        Refusal::CleanupFailed(Fate::Undone),
+        found,
+        false,
+    )
+}
+
 // Poisoned and undone where the call poisons; closed where the transaction was aborted; else open.
 fn fate_of(poisons: bool, aborted: bool) -> Fate
     ensures { λ f. ⌜ f ≡ fate poisons aborted ⌝ }
@@ -263,35 +312,11 @@ pub fn ending_at(gate: usize, l: Letters) -> Ending
     let failed = l.at[23] == b'F';
     match number {
         4 => stays(Refusal::StepFailed(Fate::Open)),
-        5 => aborts(
-            failed,
-            Refusal::PrepareFailed(Fate::Closed),
-            Refusal::CleanupFailed(Fate::Undone),
-            false,
-            true,
-        ),
-        6 => aborts(
-            failed,
-            Refusal::PreparePanicked(Fate::Closed),
-            Refusal::PreparePanicked(Fate::Undone),
-            false,
-            true,
-        ),
-        7 => aborts(
-            failed,
-            Refusal::Conflict(Fate::Closed),
-            Refusal::Conflict(Fate::Undone),
-            false,
-            false,
-        ),
+        5 => prepare_failed(failed),
+        6 => prepare_panicked(failed),
+        7 => conflict(failed),
         8 => stays(Refusal::BoundDurably(Fate::Open)),
-        9 => aborts(
-            failed,
-            Refusal::FoundPoisoned(Fate::Closed),
-            Refusal::CleanupFailed(Fate::Undone),
-            l.at[10] != b'F',
-            false,
-        ),
+        9 => found_poisoned(failed, l.at[10] != b'F'),
         10 => insert_failed(l.at[24] == b'F'),
         11 => callback_at(l),
         13 => spoils(Refusal::RemoveFailed(Fate::Undone), false),

@@ -15,23 +15,23 @@ element-copy-out-failed c = search needs
 stays-requires : tie.Need-stays-requires
 stays-requires c κs = search needs
 
-aborts-requires : tie.Need-aborts-requires
-aborts-requires c κs = search needs
+prepare-failed-requires : tie.Need-prepare-failed-requires
+prepare-failed-requires c κs = search needs
 
-aborts-requires-2 : tie.Need-aborts-requires-2
-aborts-requires-2 c κs = search needs
+prepare-panicked-requires : tie.Need-prepare-panicked-requires
+prepare-panicked-requires c κs = search needs
 
-aborts-requires-3 : tie.Need-aborts-requires-3
-aborts-requires-3 c κs = search needs
+conflict-requires : tie.Need-conflict-requires
+conflict-requires c κs = search needs
 
 stays-requires-2 : tie.Need-stays-requires-2
 stays-requires-2 c κs = search needs
 
-element-copy-out-aborts : tie.Need-element-copy-out-aborts
-element-copy-out-aborts c = search needs
+element-copy-out-found-poisoned : tie.Need-element-copy-out-found-poisoned
+element-copy-out-found-poisoned c = search needs
 
-aborts-requires-4 : tie.Need-aborts-requires-4
-aborts-requires-4 c κs = search needs
+found-poisoned-requires : tie.Need-found-poisoned-requires
+found-poisoned-requires c κs = search needs
 
 element-copy-out-insert-failed : tie.Need-element-copy-out-insert-failed
 element-copy-out-insert-failed c = search needs
@@ -72,15 +72,15 @@ returns c = rw (← c .before .before .before .number-at .ensures, c .before .ma
 
 returns-2 : tie.Need-returns-2
 unfolding endingFor
-returns-2 c = rw (← c .before .before .before .number-at .ensures, c .before .match .keys2) (c .aborts .ensures)
+returns-2 c = rw (← c .before .before .before .number-at .ensures, c .before .match .keys2) (c .prepare-failed .ensures)
 
 returns-3 : tie.Need-returns-3
 unfolding endingFor
-returns-3 c = rw (← c .before .before .before .number-at .ensures, c .before .match .keys3) (c .aborts2 .ensures)
+returns-3 c = rw (← c .before .before .before .number-at .ensures, c .before .match .keys3) (c .prepare-panicked .ensures)
 
 returns-4 : tie.Need-returns-4
 unfolding endingFor
-returns-4 c = rw (← c .before .before .before .number-at .ensures, c .before .match .keys4) (c .aborts3 .ensures)
+returns-4 c = rw (← c .before .before .before .number-at .ensures, c .before .match .keys4) (c .conflict .ensures)
 
 returns-5 : tie.Need-returns-5
 unfolding endingFor
@@ -88,7 +88,7 @@ returns-5 c = rw (← c .before .before .before .number-at .ensures, c .before .
 
 returns-6 : tie.Need-returns-6
 unfolding endingFor
-returns-6 c = rw (← c .before .before .before .before .number-at .ensures, c .before .before .match .keys6) (c .aborts4 .ensures)
+returns-6 c = rw (← c .before .before .before .before .number-at .ensures, c .before .before .match .keys6) (c .found-poisoned .ensures)
 
 returns-7 : tie.Need-returns-7
 unfolding endingFor
@@ -130,12 +130,12 @@ ending-at-spec =
     number-at-requires
     element-copy-out-failed
     stays-requires
-    aborts-requires
-    aborts-requires-2
-    aborts-requires-3
+    prepare-failed-requires
+    prepare-panicked-requires
+    conflict-requires
     stays-requires-2
-    element-copy-out-aborts
-    aborts-requires-4
+    element-copy-out-found-poisoned
+    found-poisoned-requires
     element-copy-out-insert-failed
     insert-failed-requires
     callback-at-requires

@@ -1,0 +1,102 @@
+-- The puts of each gate as one row of blocks, most of them empty at most gates: the form in which code pushes them.
+use mathlib.Core.Path.{_≡_, sym, ap, _∙_}
+use mathlib.Core.Bool.{Bool, true, false, cond, _||_}
+use mathlib.Core.List.{List, [], _∷_, _++_, map, append-assoc, append-nil}
+use Prim.Native.Nat.{ℕ, zero, suc, _+_, _≤_, _<_}
+use native.Mathlib.Nat.{not-suc-le-zero, le-of-suc-le-suc, add-zero, zero-add}
+use native.Mathlib.Omega.{arith}
+use lib.ListN.{length, getD, take, List·getD-map}
+use lib.Dec.{eqb, ltb}
+use Rattle.rules.specs.Types.{Store, Tx, Schedule}
+use Rattle.rules.specs.Puts.{Put, putDrop, putPoison, putDoom}
+use Rattle.rules.specs.Changes.{indexGuards, partitionGuards, release, insertions, removals, publication, recycling, stamping}
+use Rattle.rules.specs.Commit.{Run, count, finish}
+use Rattle.rules.specs.Outcome.{aborting, rollingBack, worse, undoing, abortingLate}
+use Rattle.rules.specs.Gates.{Gate, gates, clean}
+
+-- the gate after the last: the run that passes them all
+abbrev pub cleanGate : ℕ
+cleanGate = 27
+
+-- a block that is stored from a gate on; and one whose first k puts are stored at a gate of its own, and all of it after
+abbrev pub after : ℕ → ℕ → List Put → List Put
+after own g ps = cond (ltb g own) [] ps
+
+abbrev pub upTo : ℕ → ℕ → ℕ → List Put → List Put
+upTo own g k ps = cond (ltb g own) [] (cond (eqb g own) (take k ps) ps)
+
+-- n numbers from p on
+abbrev countFrom : ℕ → ℕ → List ℕ
+countFrom p zero = []
+countFrom p (suc n) = p ∷ countFrom (suc p) n
+
+count-at : (p n i d : ℕ) → i < n → getD (countFrom p n) i d ≡ p + i
+count-at p zero i d h = absurd (not-suc-le-zero h)
+count-at p (suc n) zero d h = sym (add-zero p)
+count-at p (suc n) (suc i) d h = count-at (suc p) n i d (le-of-suc-le-suc h) ∙ omega arith
+
+-- the gates that abort, and let go what they hold before
+unfoldable pub aborters : List Bool
+aborters = false ∷ false ∷ true ∷ true ∷ true ∷ false ∷ true ∷ false ∷ true ∷ false ∷ false ∷ true ∷ false ∷ true ∷ false ∷ true ∷ false ∷ true ∷ false ∷ true ∷ []
+
+-- a callback's, by its letter; a failed removal's or stamp's; the doom of a failed publication, recycling or finish
+abbrev pub poisonsOf : Bool → ℕ → ℕ → List Put
+poisonsOf bad t g =
+    cond (eqb g 21) (cond bad (putPoison ∷ []) [])
+    (cond (eqb g 22 || eqb g 26) (putPoison ∷ []) (cond (eqb g 23 || (eqb g 24 || eqb g 25)) (putDoom t ∷ []) []))
+
+module _ (S : Store) (x : Tx) (logged : Bool) (plan : Schedule) where
+  -- the stores of the steps up to the gate: guards and postings, then rows
+  unfoldable pub taken : ℕ → List Put
+  taken g =
+      after 7 g (indexGuards S x (x .txid .0))
+      ++ (after 9 g (partitionGuards x (x .txid .0))
+      ++ (upTo 20 g (count S x logged plan 15) (insertions S x)
+      ++ upTo 22 g (count S x logged plan 17) (removals S x)))
+
+  unfoldable pub passed : ℕ → List Put
+  passed g =
+      upTo 23 g (count S x logged plan 18) (publication x)
+      ++ (upTo 24 g (count S x logged plan 19) (recycling S x)
+      ++ (after 26 g (putDrop (x .txid .0) ∷ [])
+      ++ upTo 26 g (count S x logged plan 22) (stamping S x)))
+
+  unfoldable pub stored : ℕ → List Put
+  stored g = taken g ++ passed g
+
+  -- the poison at the gate
+  unfoldable pub poisons : ℕ → List Put
+  poisons g = poisonsOf (worse S x logged plan) (x .txid .0) g
+
+  -- the insertions taken back
+  unfoldable pub undoes : ℕ → List Put
+  undoes g = cond (eqb g 20) (rollingBack S x logged plan .puts) (cond (eqb g 21) (undoing S x logged plan .puts) [])
+
+  -- the abort of a failed callback, and the finish of a failed publication or recycling
+  unfoldable pub drops : ℕ → List Put
+  drops g = cond (eqb g 21) (abortingLate S x logged plan .puts) (cond (eqb g 23 || eqb g 24) (finish S x logged plan) [])
+
+  -- the guards let go
+  unfoldable pub lets : ℕ → List Put
+  lets g = cond (ltb g 7) [] (cond (ltb g 9) (indexGuards S x 0) (release S x))
+
+  -- the abort of the gates up to the tests
+  unfoldable pub dies : ℕ → List Put
+  dies g = cond (getD aborters g false) (aborting S x logged plan .puts) []
+
+  unfoldable pub putsAt : ℕ → List Put
+  putsAt g = stored g ++ (poisons g ++ (undoes g ++ (drops g ++ (lets g ++ dies g))))
+
+  -- gates 0 to 27
+  all-puts : map (λ g. g .then .puts) (gates S x logged plan) ++ clean S x logged plan .puts ∷ [] ≡ map putsAt (countFrom 0 (suc cleanGate))
+  unfolding gates putsAt stored taken passed poisons undoes drops lets dies aborters
+  all-puts = simp (append-assoc, append-nil)
+
+  last-puts : clean S x logged plan .puts ≡ putsAt cleanGate
+  unfolding putsAt stored taken passed poisons undoes drops lets dies aborters
+  last-puts = simp (append-assoc, append-nil)
+
+  -- so they are the puts of commit's gates
+  pub puts-at : (g : ℕ) → g ≤ cleanGate → getD (map (λ g. g .then .puts) (gates S x logged plan) ++ clean S x logged plan .puts ∷ []) g (clean S x logged plan .puts) ≡ putsAt g
+  puts-at g h =
+      rw (all-puts, last-puts) (List·getD-map putsAt (countFrom 0 (suc cleanGate)) g cleanGate ∙ ap putsAt (count-at 0 (suc cleanGate) g cleanGate (omega arith) ∙ zero-add g))
