@@ -87,7 +87,26 @@ impl Gate {
 
     // Which of them abort at once.
     pub const ABORTS: [bool; Gate::TESTED] = [
-        false, false, true, true, true, false, true, false, true, false, false, true, false, true, false, true, false, true, false, true,
+        false,
+        false,
+        true,
+        true,
+        true,
+        false,
+        true,
+        false,
+        true,
+        false,
+        false,
+        true,
+        false,
+        true,
+        false,
+        true,
+        false,
+        true,
+        false,
+        true,
     ];
 }
 
@@ -104,7 +123,13 @@ fn limit_at(gate: usize, own: usize, k: usize) -> usize
     Journal::PUTS
 }
 
-fn take_stripes(stripes: &[bool; Store::STRIPES], gate: usize, t: u64, j: &mut [u64; Journal::WORDS], n: usize) -> usize
+fn take_stripes(
+    stripes: &[bool; Store::STRIPES],
+    gate: usize,
+    t: u64,
+    j: &mut [u64; Journal::WORDS],
+    n: usize,
+) -> usize
     ensures { λ r. ⌜ ((S : Store) (x : Tx) → now (stripes .entry) ≡ guardedMarks (changes S x) x → fit S x ≡ true → Adds (now (j .entry)) n (after 7 gate (indexGuards S x t)) (now (j .exit)) r) ⌝ }
 {
     if gate < Gate::STRIPES {
@@ -113,7 +138,13 @@ fn take_stripes(stripes: &[bool; Store::STRIPES], gate: usize, t: u64, j: &mut [
     blocks::push_index_guards(stripes, t, j, n)
 }
 
-fn take_partitions(partitions: &[bool; RowId::PARTITIONS], gate: usize, t: u64, j: &mut [u64; Journal::WORDS], n: usize) -> usize
+fn take_partitions(
+    partitions: &[bool; RowId::PARTITIONS],
+    gate: usize,
+    t: u64,
+    j: &mut [u64; Journal::WORDS],
+    n: usize,
+) -> usize
     ensures { λ r. ⌜ ((x : Tx) → now (partitions .entry) ≡ partitionMarks x → Adds (now (j .entry)) n (after 9 gate (partitionGuards x t)) (now (j .exit)) r) ⌝ }
 {
     if gate < Gate::PARTITIONS {
@@ -183,7 +214,14 @@ fn push_poisons(bad: bool, t: u64, gate: usize, j: &mut [u64; Journal::WORDS], n
 }
 
 // The first `made` insertions taken back; where that fails, some of them, and the store is poisoned.
-fn roll_back(into: Codes, made: usize, s: Struck, already: bool, j: &mut [u64; Journal::WORDS], n: usize) -> usize
+fn roll_back(
+    into: Codes,
+    made: usize,
+    s: Struck,
+    already: bool,
+    j: &mut [u64; Journal::WORDS],
+    n: usize,
+) -> usize
     ensures { λ r. ⌜ ((S : Store) (x : Tx) (logged : Bool) (plan : Schedule) → into ≡ codesOf (destinations (changes S x)) → s ≡ struckOf S x logged plan → fit S x ≡ true → Adds (now (j .entry)) n (rollback S x logged plan already (take made (destinations (changes S x))) .puts) (now (j .exit)) r) ⌝ }
 {
     if s.rollback {
@@ -194,7 +232,14 @@ fn roll_back(into: Codes, made: usize, s: Struck, already: bool, j: &mut [u64; J
 }
 
 // The abort; where it fails, the store is poisoned.
-fn abort_or_poison(own: &[bool; SlotPtr::PLACES], t: u64, failing: bool, already: bool, j: &mut [u64; Journal::WORDS], n: usize) -> usize
+fn abort_or_poison(
+    own: &[bool; SlotPtr::PLACES],
+    t: u64,
+    failing: bool,
+    already: bool,
+    j: &mut [u64; Journal::WORDS],
+    n: usize,
+) -> usize
     ensures { λ r. ⌜ ((S : Store) (x : Tx) (logged : Bool) (plan : Schedule) → now (own .entry) ≡ ownMarks (S .xmin) (walk (S .heads) (S .next) .seen) t → t ≡ x .txid .0 → failing ≡ fails S x logged plan 23 → length (S .xmin) ≤ places → Adds (now (j .entry)) n (abortOrPoison S x logged plan already .puts) (now (j .exit)) r) ⌝ }
 {
     if failing {
