@@ -1,23 +1,23 @@
 -- The puts that end a run, gate by gate: poison, rollback, abort, finish, guards let go.
 use mathlib.Core.Path.{_≡_, refl, sym, ap, _∙_}
 use mathlib.Core.Bool.{Bool, true, false, not, cond, _||_}
-use mathlib.Core.List.{List, [], _∷_, _++_, map, reverse}
+use mathlib.Core.List.{List, [], _∷_, map, reverse}
 use Prim.Native.Nat.{ℕ, _≤_, _<_}
 use native.Mathlib.Omega.{arith}
 use lib.ListN.{length, getD, take, length-map, length-reverse, length-take}
 use lib.Seq.{take-all}
 use lib.Dec.{eqb}
-use borrow.Author.Tests.{eqb-true, eqb-false, eq-eqb, ne-eqb}
+use borrow.Author.Tests.{eqb-false, eq-eqb, ne-eqb}
 use Rattle.types.specs.Limits.{writeLimit}
 use Rattle.rules.specs.Bools.{by}
 use Rattle.rules.specs.Types.{Store, Tx, Schedule}
 use Rattle.rules.specs.Fit.{fit}
-use Rattle.rules.specs.Puts.{Put, putRemove, putDrop, putPoison, abortPuts}
+use Rattle.rules.specs.Puts.{Put, putRemove, putDrop, abortPuts}
 use Rattle.rules.specs.Changes.{changes, destinations}
 use Rattle.rules.specs.Commit.{fails, count, poison, abortOrPoison, rollback}
 use Rattle.rules.specs.Outcome.{worse, undoing}
 use Rattle.journal.specs.Journal.{putLimit}
-use Rattle.journal.specs.Adds.{Adds, adds-none, adds-then}
+use Rattle.journal.specs.Adds.{Adds, adds-then}
 use Rattle.plan.specs.declared.run.Plan.{Plan}
 use Rattle.plan.specs.declared.run.Struck.{Struck}
 use Rattle.plan.specs.Few.{destinations-fit}

@@ -11,3 +11,4 @@ pub mod Room
 pub mod Parts
 pub mod Planned
 pub mod Ends
+pub mod Held

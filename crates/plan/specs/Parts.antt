@@ -5,14 +5,14 @@ use mathlib.Core.List.{List, [], _∷_, _++_, map, append-assoc, append-nil}
 use Prim.Native.Nat.{ℕ, zero, suc, _+_, _≤_, _<_}
 use native.Mathlib.Nat.{not-suc-le-zero, le-of-suc-le-suc, add-zero, zero-add}
 use native.Mathlib.Omega.{arith}
-use lib.ListN.{length, getD, take, List·getD-map}
+use lib.ListN.{getD, take, List·getD-map}
 use lib.Dec.{eqb, ltb}
 use Rattle.rules.specs.Types.{Store, Tx, Schedule}
 use Rattle.rules.specs.Puts.{Put, putDrop, putPoison, putDoom}
 use Rattle.rules.specs.Changes.{indexGuards, partitionGuards, release, insertions, removals, publication, recycling, stamping}
-use Rattle.rules.specs.Commit.{Run, count, finish}
+use Rattle.rules.specs.Commit.{count, finish}
 use Rattle.rules.specs.Outcome.{aborting, rollingBack, worse, undoing, abortingLate}
-use Rattle.rules.specs.Gates.{Gate, gates, clean}
+use Rattle.rules.specs.Gates.{gates, clean}
 
 -- the gate after the last: the run that passes them all
 abbrev pub cleanGate : ℕ

@@ -1,34 +1,36 @@
 -- What a commit stores, as code has it before it pushes a put: marks, lists and numbers.
-use mathlib.Core.Path.{_≡_, refl, sym, ap, _∙_}
-use mathlib.Core.Bool.{Bool, true, false, cond, _||_}
-use mathlib.Core.List.{List, [], _∷_, _++_, map, reverse}
-use Prim.Native.Nat.{ℕ, _+_, _≤_}
+use mathlib.Core.Path.{_≡_, ap, _∙_}
+use mathlib.Core.Bool.{Bool, true, false, cond}
+use mathlib.Core.List.{List, [], _∷_, map}
+use Prim.Native.Nat.{ℕ, _≤_}
 use native.Mathlib.Nat.{min-eq-left}
 use native.Mathlib.Omega.{arith}
-use lib.ListN.{length, take, length-map, length-reverse}
+use lib.ListN.{length, take}
 use lib.Seq.{take-all}
 use lib.Dec.{eqb, ltb}
 use Rattle.types.specs.Limits.{places, writeLimit}
 use Rattle.types.specs.Zero.{noWrite}
-use Rattle.rules.specs.Lists.{pad}
-use Rattle.rules.specs.Bools.{by}
-use Rattle.rules.specs.Types.{Store, Tx, Schedule}
-use Rattle.rules.specs.Transaction.{finals}
+use Rattle.rules.specs.Lists.{all, pad}
+use Rattle.rules.specs.Types.{Store, Tx, Write, Schedule}
+use Rattle.rules.specs.Transaction.{indexReadsOf, finals}
 use Rattle.rules.specs.Chains.{walk}
 use Rattle.rules.specs.Fit.{fit}
-use Rattle.rules.specs.Puts.{Put, putRemove, putDrop, putPoison, abortPuts}
-use Rattle.rules.specs.Changes.{changes, destinations, sources, indexGuards, partitionGuards, insertions, removals, publication, recycling, stamping}
-use Rattle.rules.specs.Commit.{fails, count, poison, abortOrPoison, rollback}
-use Rattle.rules.specs.Outcome.{worse, undoing}
+use Rattle.rules.specs.Puts.{Put, putDrop}
+use Rattle.rules.specs.Changes.{indexChanges, changes, destinations, sources, indexGuards, partitionGuards, insertions, removals, publication, recycling, stamping}
+use Rattle.rules.specs.Commit.{fails, count, rollback}
+use Rattle.rules.specs.Outcome.{worse}
 use Rattle.journal.specs.Journal.{putLimit}
 use Rattle.journal.specs.Adds.{Adds, adds-then}
 use Rattle.look.specs.Pad.{take-pad}
+use Rattle.plan.specs.declared.moves.Moves.{Moves}
 use Rattle.plan.specs.declared.run.Plan.{Plan}
 use Rattle.plan.specs.declared.run.Struck.{Struck}
-use Rattle.plan.specs.Moves.{codesOf, changedMarks}
-use Rattle.plan.specs.Guards.{guardedMarks, partitionMarks}
-use Rattle.plan.specs.Own.{ownMarks, recycledMarks}
-use Rattle.plan.specs.Few.{finals-fit, destinations-fit, insertions-few, removals-few, publication-few, recycling-few, stamping-few}
+use Rattle.plan.specs.Marks.{markAll}
+use Rattle.plan.specs.Plain.{plain, finals-plain}
+use Rattle.plan.specs.Moves.{codesOf, changedMarks, movesOf}
+use Rattle.plan.specs.Guards.{stripeRead, guardedMarks, partitionMarks}
+use Rattle.plan.specs.Own.{ownMarks, unmarkAll, newOf, recycledMarks}
+use Rattle.plan.specs.Few.{finals-fit, insertions-few, removals-few, publication-few, recycling-few, stamping-few}
 use Rattle.plan.specs.Parts.{after, upTo, taken, passed}
 
 unfoldable pub planOf : Store → Tx → Plan
@@ -152,3 +154,20 @@ module _ {S : Store} {x : Tx} {logged : Bool} {plan : Schedule} {p : Plan} {s : 
       let stamp-room : length (stamping S x) ≤ putLimit = omega (arith, stamping-few S x) in
       adds-then (limited g 23 _ l (publication x) rows-room (rw i at e) a) (adds-then (limited g 24 _ m (recycling S x) free-room (rw f at q) b)
       (adds-then (rw txid-is at c) (limited g 26 _ k (stamping S x) stamp-room (rw t at w) d)))
+
+-- the parts as they are computed, from the arrays that a commit reads, make its plan
+module _ (S : Store) (x : Tx) (key xmin seen : List ℕ) (has : List Bool) (at : List Write) (size : ℕ) where
+  pub plan-is : {m : Moves} {guarded partitioned own recycled : List Bool}
+      → (all plain (take size at) ≡ true → m ≡ movesOf (indexChanges key has (take size at))) → guarded ≡ markAll (map stripeRead (indexReadsOf x)) (m .stripes) → partitioned ≡ partitionMarks x
+      → own ≡ ownMarks xmin seen (x .txid .0) → recycled ≡ unmarkAll (map newOf (take size at)) own
+      → key ≡ S .key → has ≡ S .has → xmin ≡ S .xmin → seen ≡ walk (S .heads) (S .next) .seen → at ≡ pad writeLimit noWrite (finals x) → size ≡ length (finals x) → fit S x ≡ true
+      → _≡_ {A = Plan} (record { txid = x .txid .0; at = at; count = size; into = m .into; out = m .out; changed = m .stripes; stripes = guarded; partitions = partitioned; own = own; recycled = recycled }) (planOf S x)
+  unfolding planOf changes movesOf guardedMarks recycledMarks
+  plan-is {m} {guarded} {partitioned} {own} {recycled} moved g p o r k h t w a n ok =
+      let ws : take size at ≡ finals x = rw (a, n) (finals-taken S x ok) in
+      let mv : m ≡ movesOf (changes S x) = moved (rw ws (finals-plain S x ok)) ∙ rw (ws, k, h) in
+      let st : m .stripes ≡ changedMarks (changes S x) = ap (λ q. q .stripes) mv in
+      let ow : own ≡ ownMarks (S .xmin) (walk (S .heads) (S .next) .seen) (x .txid .0) = o ∙ rw (t, w) in
+      let gd : guarded ≡ guardedMarks (changes S x) x = g ∙ rw st in
+      let re : recycled ≡ recycledMarks (S .xmin) (walk (S .heads) (S .next) .seen) x = r ∙ rw (ws, ow) in
+      λ i. record { txid = x .txid .0; at = a i; count = n i; into = ap (λ q. q .into) mv i; out = ap (λ q. q .out) mv i; changed = st i; stripes = gd i; partitions = p i; own = ow i; recycled = re i }

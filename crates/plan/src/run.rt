@@ -5,21 +5,28 @@ ghost use mathlib.Core.Bool.{Bool, true, false, _||_};
 ghost use mathlib.Core.List.{[], _∷_};
 ghost use Prim.Native.Nat.{_≤_};
 ghost use lib.ListN.{length, getD, take};
-ghost use Rattle.types.specs.Limits.{places};
+ghost use Rattle.types.specs.Limits.{places, writeLimit};
+ghost use Rattle.types.specs.Zero.{noWrite};
+ghost use Rattle.rules.specs.Lists.{pad};
 ghost use Rattle.rules.specs.Types.{Store, Tx, Schedule};
+ghost use Rattle.rules.specs.Transaction.{finals};
 ghost use Rattle.rules.specs.Chains.{walk};
 ghost use Rattle.rules.specs.Fit.{fit};
 ghost use Rattle.rules.specs.Puts.{putDrop};
 ghost use Rattle.rules.specs.Changes.{changes, destinations, indexGuards, partitionGuards};
 ghost use Rattle.rules.specs.Commit.{fails, poison, abortOrPoison, rollback};
 ghost use Rattle.journal.specs.Adds.{Adds};
+ghost use Rattle.look.specs.Lent.{atPlaces, flagsAtPlaces};
 ghost use Rattle.plan.specs.Moves.{codesOf};
 ghost use Rattle.plan.specs.Guards.{guardedMarks, partitionMarks};
 ghost use Rattle.plan.specs.Own.{ownMarks};
 ghost use Rattle.plan.specs.Parts.{after, aborters, poisonsOf, taken, passed, undoes, drops, lets, dies, putsAt};
-ghost use Rattle.plan.specs.Planned.{Planned, limitAt, struckOf};
+ghost use Rattle.plan.specs.Planned.{planOf, Planned, limitAt, struckOf};
 use crate::blocks;
+use crate::guards;
+use crate::moves;
 use crate::moves::Codes;
+use crate::own;
 use journal::Journal;
 use types::RowId;
 use types::SlotPtr;
@@ -56,6 +63,40 @@ pub struct Struck {
     pub worse: bool,
     // the store is poisoned
     pub poisoned: bool,
+}
+
+// The plan of a commit, from the arrays of the store that it reads, the marks of the walk, and the final writes.
+pub fn plan_of<'a>(
+    key: &'a [u32; SlotPtr::PLACES],
+    has: &'a [bool; SlotPtr::PLACES],
+    xmin: &'a [u64; SlotPtr::PLACES],
+    seen: &'a [u8; SlotPtr::PLACES],
+    x: Tx,
+    at: [Write; Tx::WRITES],
+    count: usize,
+) -> Plan
+    ensures { λ p. ⌜ ((S : Store) → atPlaces (now (key .entry)) ≡ S .key → flagsAtPlaces (now (has .entry)) ≡ S .has → atPlaces (now (xmin .entry)) ≡ S .xmin → atPlaces (now (seen .entry)) ≡ walk (S .heads) (S .next) .seen → at ≡ pad writeLimit noWrite (finals x) → count ≡ length (finals x) → fit S x ≡ true → p ≡ planOf S x) ⌝ }
+{
+    let m = moves::index_changes(key, has, at, count);
+    let into = m.into;
+    let out = m.out;
+    let changed = m.stripes;
+    let stripes = guards::guarded_stripes(x, changed);
+    let partitions = guards::guarded_partitions(x);
+    let mine = own::own_marks(xmin, seen, x.txid);
+    let recycled = own::recycled_marks(mine, at, count);
+    Plan {
+        txid: x.txid.0,
+        at: at,
+        count: count,
+        into: into,
+        out: out,
+        changed: changed,
+        stripes: stripes,
+        partitions: partitions,
+        own: mine,
+        recycled: recycled,
+    }
 }
 
 // The gates by their numbers, where what is stored changes.

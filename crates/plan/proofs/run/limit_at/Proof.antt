@@ -1,8 +1,5 @@
 -- `limit_at` meets its contract, by its tests in order.
-use mathlib.Core.Path.{_≡_}
-use native.Mathlib.Omega.{arith}
 use borrow.Author.Tests.{lt-ltb, le-ltb, eq-eqb, ne-eqb}
-use borrow.Author.Needs.{needs}
 use Rattle.plan.proofs.run.limit_at.Statement.{statement}
 use Rattle.plan.proofs.run.limit_at.Tie as tie
 

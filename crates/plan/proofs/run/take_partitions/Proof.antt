@@ -1,5 +1,4 @@
 -- `take_partitions` meets its contract, by the gate.
-use native.Mathlib.Omega.{arith}
 use borrow.Author.Tests.{lt-ltb, le-ltb}
 use Rattle.journal.specs.Adds.{adds-none}
 use borrow.Author.Needs.{needs}

@@ -1,0 +1,36 @@
+-- `stop_at` meets its contract: a case for each cut.
+use Rattle.commit.specs.Run.{stopAt}
+use borrow.Author.Needs.{needs}
+use Rattle.commit.proofs.answers.stop_at.Statement.{statement}
+use Rattle.commit.proofs.answers.stop_at.Tie as tie
+
+enum-told : tie.Need-enum-told
+enum-told c = search needs
+
+enum-known-cut : tie.Need-enum-known-cut
+enum-known-cut c = search needs
+
+cast-within : tie.Need-cast-within
+cast-within c = search needs
+
+within-requires : tie.Need-within-requires
+within-requires c κs = search needs
+
+returns : tie.Need-returns
+unfolding stopAt
+returns c = rw (c .enum-told .given .1)
+
+returns-2 : tie.Need-returns-2
+unfolding stopAt
+returns-2 c = rw (c .before .before .cut .given .1) (c .within .ensures)
+
+pub stop-at-spec : {M : Type 1} → statement M
+stop-at-spec =
+    tie.close
+    (tie.spec
+    enum-told
+    enum-known-cut
+    cast-within
+    within-requires
+    returns
+    returns-2)

@@ -1,0 +1,36 @@
+-- `plan_for` meets its contract: what is lent is the store's, and the marks are those of its walk.
+use mathlib.Core.Bool.{false}
+use Rattle.types.specs.Limits.{places}
+use Rattle.commit.specs.Planning.{whole, marks-are, laid-at, laid-count}
+use borrow.Author.Needs.{needs}
+use Rattle.commit.proofs.planning.plan_for.Statement.{statement}
+use Rattle.commit.proofs.planning.plan_for.Tie as tie
+
+walk-all-requires : tie.Need-walk-all-requires
+walk-all-requires c κs = search needs
+
+final-writes-requires : tie.Need-final-writes-requires
+final-writes-requires c κs = search needs
+
+plan-of-requires : tie.Need-plan-of-requires
+plan-of-requires c κs = search needs
+
+returns : tie.Need-returns
+returns c =
+    λ S z h n m k b ok. c .plan-of .ensures S
+    (whole places 0 k (z .key))
+    (whole places false b (z .has))
+    (whole places 0 m (z .xmin))
+    (marks-are S z h n (c .before .before .before .before .walk-all .ensures))
+    (laid-at (c .before .before .before .before .before .before .args .x) (c .before .before .before .final-writes .ensures))
+    (laid-count (c .before .before .before .before .before .before .args .x) (c .before .before .before .final-writes .ensures))
+    ok
+
+pub plan-for-spec : {M : Type 1} → statement M
+plan-for-spec =
+    tie.close
+    (tie.spec
+    walk-all-requires
+    final-writes-requires
+    plan-of-requires
+    returns)

@@ -1,0 +1,96 @@
+// The answers of commit.
+
+ghost use mathlib.Core.Path.{_≡_};
+ghost use Rattle.rules.specs.Answer.{unchanged};
+ghost use Rattle.commit.specs.Run.{stopAt, cutAnswer, wholeAnswer};
+use journal::packed::within;
+use steps::answers::events_of;
+use steps::answers::no_events;
+use steps::answers::no_record;
+use steps::answers::record_of;
+use steps::ends::ending_at;
+use steps::ends::passed_at;
+use steps::ends::tx_left;
+use steps::faults::letters_of;
+use steps::finals::has_writes;
+use steps::gates;
+use types::Answer;
+use types::Cut;
+use types::Fate;
+use types::Refusal;
+use types::Schedule;
+use types::Store;
+use types::Tx;
+
+// All unchanged.
+pub fn unchanged(s: Store, x: Tx, why: Refusal) -> Answer
+    ensures { λ r. ⌜ r ≡ unchanged s x why ⌝ }
+{
+    let record = no_record();
+    let events = no_events();
+    Answer {
+        refusal: why,
+        record: record,
+        store: s,
+        tx: x,
+        events: events,
+        stores: 0,
+    }
+}
+
+// How many of n stores are made.
+pub fn stop_at(cut: Cut, n: usize) -> usize
+    ensures { λ r. ⌜ r ≡ stopAt cut n ⌝ }
+{
+    match cut {
+        Cut::Uncut => n,
+        Cut::After(k) => within(k as usize, n),
+    }
+}
+
+// Number 18, after n stores.
+pub fn cut_answer(t: Store, n: usize) -> Answer
+    ensures { λ r. ⌜ r ≡ cutAnswer t n ⌝ }
+{
+    let record = no_record();
+    let events = no_events();
+    let none = Tx::zero();
+    Answer {
+        refusal: Refusal::CutOff(Fate::Closed),
+        record: record,
+        store: t,
+        tx: none,
+        events: events,
+        stores: n,
+    }
+}
+
+// The answer of a run that ended at the gate, with all its n stores.
+pub fn whole_answer(
+    t: Store,
+    x: Tx,
+    logged: bool,
+    bound: bool,
+    plan: Schedule,
+    g: usize,
+    n: usize,
+) -> Answer
+    ensures { λ r. ⌜ r ≡ wholeAnswer t x logged bound plan g n ⌝ }
+{
+    let l = letters_of(plan);
+    let end = ending_at(g, l);
+    let y = tx_left(g, l, x);
+    let record = record_of(gates::CLEAN <= g, x);
+    let writing = has_writes(x);
+    let passed = passed_at(g);
+    let events = events_of(logged, bound, writing, passed, end);
+    let why = end.refusal;
+    Answer {
+        refusal: why,
+        record: record,
+        store: t,
+        tx: y,
+        events: events,
+        stores: n,
+    }
+}

@@ -1,0 +1,27 @@
+// Commit: the admission, the gate that ends the run, its stores as one journal, and the answer.
+
+ghost use mathlib.Core.Path.{_≡_};
+ghost use Rattle.rules.specs.Answer.{commit};
+
+mod admission;
+mod answers;
+mod planning;
+mod run;
+
+use types::Answer;
+use types::Cut;
+use types::Schedule;
+use types::Store;
+use types::Tx;
+
+// Tries 1, 2 and 3, then the steps; a refusal leaves all unchanged.
+pub fn commit(s: Store, x: Tx, logged: bool, plan: Schedule, cut: Cut) -> Answer
+    ensures { λ r. ⌜ r ≡ commit s x logged plan cut ⌝ }
+{
+    let number = admission::number_for(s, x, plan);
+    if number != 0 {
+        let why = admission::said_by(number);
+        return answers::unchanged(s, x, why);
+    }
+    run::run(s, x, logged, plan, cut)
+}
