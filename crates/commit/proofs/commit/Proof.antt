@@ -14,13 +14,17 @@ unchanged-requires : tie.Need-unchanged-requires
 unchanged-requires c κs = search needs
 
 returns : tie.Need-returns
-returns c = tried-refused (c .before .before .before .before .args .s) (c .before .before .before .before .args .x) (c .before .before .before .before .args .logged) (c .before .before .before .before .args .plan) (c .before .before .before .before .args .cut) (c .before .before .before .number-for .ensures) (c .before .before .if1 .taken) (c .before .said-by .ensures) (c .unchanged .ensures)
+returns c =
+    let s = c .before .before .before .before in
+    tried-refused (s .args .s) (s .args .x) (s .args .logged) (s .args .plan) (s .args .cut) (c .before .before .before .number-for .ensures) (c .before .before .if1 .taken) (c .before .said-by .ensures) (c .unchanged .ensures)
 
 run-requires : tie.Need-run-requires
 run-requires c κs = search needs
 
 returns-2 : tie.Need-returns-2
-returns-2 c = tried-done (c .before .before .before .args .s) (c .before .before .before .args .x) (c .before .before .before .args .logged) (c .before .before .before .args .plan) (c .before .before .before .args .cut) (c .before .before .number-for .ensures) (c .before .if1 .left) (c .run .ensures (tried-fit (c .before .before .before .args .s) (c .before .before .before .args .x) (c .before .before .before .args .logged) (c .before .before .before .args .plan) (c .before .before .before .args .cut) (c .before .before .number-for .ensures) (c .before .if1 .left)))
+returns-2 c =
+    let s = c .before .before .before in
+    tried-done (s .args .s) (s .args .x) (s .args .logged) (s .args .plan) (s .args .cut) (c .before .before .number-for .ensures) (c .before .if1 .left) (c .run .ensures (tried-fit (s .args .s) (s .args .x) (s .args .logged) (s .args .plan) (s .args .cut) (c .before .before .number-for .ensures) (c .before .if1 .left)))
 
 pub commit-spec : {M : Type 1} → statement M
 commit-spec =

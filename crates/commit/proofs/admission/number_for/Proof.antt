@@ -29,9 +29,10 @@ number-tried-requires c κs = search needs
 
 returns : tie.Need-returns
 returns c =
-    let S = c .before .before .before .before .before .before .before .before .before .before .before .before .before .before .before .before .before .before .before .before .before .before .before .before .before .args .t1 in
-    let x = c .before .before .before .before .before .before .before .before .before .before .before .before .before .before .before .before .before .before .before .before .before .before .before .before .before .args .x in
-    let z = sized S (c .before .before .before .before .before .before .before .before .before .before .before .before .before .before .before .before .before .before .before .before .before .before .before .before .before .good .0) in
+    let s = c .before .before .before .before .before .before .before .before .before .before .before .before .before .before .before .before .before .before .before .before .before .before .before .before .before in
+    let S = s .args .t1 in
+    let x = s .args .x in
+    let z = sized S (s .good .0) in
     number-is S x _
     (c .before .before .before .before .before .before .before .before .before .before .resting-of .ensures .0 ∙ lent-resting S z)
     (c .before .before .before .before .before .fit-of .ensures ∙ fit-by S x _ z (c .before .before .before .before .before .before .before .before .before .before .resting-of .ensures .1))

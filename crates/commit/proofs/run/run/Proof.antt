@@ -34,34 +34,36 @@ cut-answer-requires c κs = search needs
 
 returns : tie.Need-returns
 returns c =
+    let s = c .before .before .before .before .before .before .before .before .before .before .before .before .before .before .before .before .before .before .before .before .before .before .before .before .before in
     λ ok.
-    let S = c .before .before .before .before .before .before .before .before .before .before .before .before .before .before .before .before .before .before .before .before .before .before .before .before .before .args .t1 in
-    let x = c .before .before .before .before .before .before .before .before .before .before .before .before .before .before .before .before .before .before .before .before .before .before .before .before .before .args .x in
-    let logged = c .before .before .before .before .before .before .before .before .before .before .before .before .before .before .before .before .before .before .before .before .before .before .before .before .before .args .logged in
-    let plan = c .before .before .before .before .before .before .before .before .before .before .before .before .before .before .before .before .before .before .before .before .before .before .before .before .before .args .plan in
-    let z = sized S (c .before .before .before .before .before .before .before .before .before .before .before .before .before .before .before .before .before .before .before .before .before .before .before .before .before .good .0) in
+    let S = s .args .t1 in
+    let x = s .args .x in
+    let logged = s .args .logged in
+    let plan = s .args .plan in
+    let z = sized S (s .good .0) in
     let pl = c .before .before .before .before .before .before .before .before .before .before .before .before .before .before .before .before .before .before .plan-for .ensures S z refl refl refl refl refl ok in
     let st = c .before .before .before .before .before .before .before .before .before .before .before .before .before .before .before .before .before .struck-of .ensures S x logged refl in
     let g = gate-of S x logged plan _ (z .stamps) (z .heads) (z .locked) (z .owner) (z .active) (z .xmin) (z .xmax) (rw (c .before .before .before .before .before .before .before .before .before .before .before .before .before .before .before .before .has-writes .ensures) at (c .before .before .before .before .before .before .before .first-gate .ensures)) in
     let h = run-pushed S x logged plan z ok pl st g (c .before .before .before .before .before .push-run .ensures S x logged plan) in
-    run-cut S x logged plan (c .before .before .before .before .before .before .before .before .before .before .before .before .before .before .before .before .before .before .before .before .before .before .before .before .before .args .cut) h (c .before .before .before .before .stop-at .ensures) (c .before .before .apply .ensures) (c .cut-answer .ensures) (c .before .if1 .taken)
+    run-cut S x logged plan (s .args .cut) h (c .before .before .before .before .stop-at .ensures) (c .before .before .apply .ensures) (c .cut-answer .ensures) (c .before .if1 .taken)
 
 whole-answer-requires : tie.Need-whole-answer-requires
 whole-answer-requires c κs = search needs
 
 returns-2 : tie.Need-returns-2
 returns-2 c =
+    let s = c .before .before .before .before .before .before .before .before .before .before .before .before .before .before .before .before .before .before .before .before .before .before .before .before .before in
     λ ok.
-    let S = c .before .before .before .before .before .before .before .before .before .before .before .before .before .before .before .before .before .before .before .before .before .before .before .before .before .args .t1 in
-    let x = c .before .before .before .before .before .before .before .before .before .before .before .before .before .before .before .before .before .before .before .before .before .before .before .before .before .args .x in
-    let logged = c .before .before .before .before .before .before .before .before .before .before .before .before .before .before .before .before .before .before .before .before .before .before .before .before .before .args .logged in
-    let plan = c .before .before .before .before .before .before .before .before .before .before .before .before .before .before .before .before .before .before .before .before .before .before .before .before .before .args .plan in
-    let z = sized S (c .before .before .before .before .before .before .before .before .before .before .before .before .before .before .before .before .before .before .before .before .before .before .before .before .before .good .0) in
+    let S = s .args .t1 in
+    let x = s .args .x in
+    let logged = s .args .logged in
+    let plan = s .args .plan in
+    let z = sized S (s .good .0) in
     let pl = c .before .before .before .before .before .before .before .before .before .before .before .before .before .before .before .before .before .before .plan-for .ensures S z refl refl refl refl refl ok in
     let st = c .before .before .before .before .before .before .before .before .before .before .before .before .before .before .before .before .before .struck-of .ensures S x logged refl in
     let g = gate-of S x logged plan _ (z .stamps) (z .heads) (z .locked) (z .owner) (z .active) (z .xmin) (z .xmax) (rw (c .before .before .before .before .before .before .before .before .before .before .before .before .before .before .before .before .has-writes .ensures) at (c .before .before .before .before .before .before .before .first-gate .ensures)) in
     let h = run-pushed S x logged plan z ok pl st g (c .before .before .before .before .before .push-run .ensures S x logged plan) in
-    run-whole S x logged plan (c .before .before .before .before .before .before .before .before .before .before .before .before .before .before .before .before .before .before .before .before .before .before .before .before .before .args .cut) h (c .before .before .before .before .stop-at .ensures) (c .before .before .apply .ensures) _ g (c .whole-answer .ensures) (c .before .if1 .left)
+    run-whole S x logged plan (s .args .cut) h (c .before .before .before .before .stop-at .ensures) (c .before .before .apply .ensures) _ g (c .whole-answer .ensures) (c .before .if1 .left)
 
 pub run-spec : {M : Type 1} → statement M
 run-spec =
