@@ -1,3 +1,7 @@
 pub mod Demand1
 pub mod Demand3
 pub mod Demand2
+pub mod Postings
+pub mod Publication
+pub mod Segment
+pub mod Witness

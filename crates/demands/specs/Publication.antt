@@ -1,0 +1,146 @@
+-- Source 002's clauses about publication and about the whole of steps 15, 17 and 18.
+use mathlib.Core.Path.{_≡_, refl, sym, ap, _∙_, subst}
+use mathlib.Core.Bool.{Bool, true, not, cond, _&&_, _||_}
+use mathlib.Core.List.{List, [], _∷_, _++_}
+use mathlib.Core.Logic.{_⊎_, inl, inr}
+use Prim.Native.Nat.{ℕ, zero, suc}
+use native.Mathlib.Omega.{arith}
+use lib.ListN.{getD, set, take}
+use lib.Seq.{take-all}
+use lib.Dec.{eqb}
+use borrow.Author.Tests.{eqb-true}
+use Rattle.rules.specs.Types.{Store, Tx, Txid, SlotPtr, RowId, Write}
+use Rattle.rules.specs.Bools.{by, and-true}
+use Rattle.rules.specs.Lists.{all, flat, memb}
+use Rattle.rules.specs.Store.{postingsOf}
+use Rattle.rules.specs.Transaction.{writesOf, finals}
+use Rattle.rules.specs.Chains.{walk}
+use Rattle.rules.specs.Fit.{writeFit, fit}
+use Rattle.rules.specs.Puts.{kStripe, kPartition, kXmax, kHead, kPoison, kDoom, putXmax, putNext, putHead, apply, applyAll}
+use Rattle.rules.specs.Changes.{publishOne, insertions, removals, publication}
+use Rattle.rules.specs.Only.{kept, is-not}
+use Rattle.rules.specs.Guards.{applyAll-append}
+use Rattle.laws.specs.Finals.{finals-all}
+use Rattle.laws.specs.Parts.{WriteFit, write-parts, Fit, fit-parts}
+use Rattle.laws.specs.Published.{publish-only}
+use Rattle.index.specs.All.{all-then}
+use Rattle.index.specs.Resting.{Exact}
+use Rattle.index.specs.Undone.{Ready}
+use Rattle.index.specs.Exact.{postings-kept, changed-exact}
+use Rattle.demands.specs.Postings.{Moved, ds, ss, P, removes-all}
+
+-- 002's `publication_prefix`, word for word: phase 0 is nothing, 1 the base marked, 2 the new version linked, 3 the head moved
+abbrev pub marked : Store → Write → ℕ → Store
+marked S w t = cond (eqb (w .base .0) 0) S (apply (putXmax (w .base .0) t) S)
+
+abbrev pub linked : Store → Write → ℕ → Store
+linked S w t = apply (putNext (w .new .0) (w .base .0)) (marked S w t)
+
+abbrev pub phase : Store → Write → ℕ → ℕ → Store
+phase S w t zero = S
+phase S w t (suc zero) = marked S w t
+phase S w t (suc (suc zero)) = linked S w t
+phase S w t (suc (suc (suc n))) = apply (putHead (w .row .0) (w .new .0)) (linked S w t)
+
+-- what stands at a place already may be put there
+set-own : (l : List ℕ) (i : ℕ) → set l i (getD l i 0) ≡ l
+set-own [] i = refl
+set-own (y ∷ l) zero = refl
+set-own (y ∷ l) (suc i) = ap (λ (m : List ℕ). y ∷ m) (set-own l i)
+
+module _ (S : Store) (w : Write) (t : ℕ) (over : getD (S .next) (w .new .0) 0 ≡ w .base .0) where
+  -- "next the base", from the write on: phase 2 is phase 1
+  pub linked-already : phase S w t 2 ≡ phase S w t 1
+  linked-already =
+      let e : set (S .next) (w .new .0) (w .base .0) ≡ S .next = ap (λ (b : ℕ). set (S .next) (w .new .0) b) (sym over) ∙ set-own (S .next) (w .new .0) in
+      by (eqb (w .base .0) 0) (λ k. rw (k, e)) (λ k. rw (k, e))
+
+  -- all puts of a write's publication are phase 3
+  moves : applyAll (publishOne t w) S ≡ apply (putHead (w .row .0) (w .new .0)) (phase S w t 1)
+  unfolding publishOne
+  moves = by (eqb (w .base .0) 0) (λ k. rw k) (λ k. rw k)
+
+  pub publishes-one : applyAll (publishOne t w) S ≡ phase S w t 3
+  publishes-one = moves ∙ ap (apply (putHead (w .row .0) (w .new .0))) (sym linked-already)
+
+  -- there are two at most
+  both-puts : (n : ℕ) → take (suc (suc n)) (publishOne t w) ≡ publishOne t w
+  unfolding publishOne
+  both-puts n = take-all (suc (suc n)) (publishOne t w) (by (eqb (w .base .0) 0) (λ k. rw k (omega arith)) (λ k. rw k (omega arith)))
+
+  -- its first n puts are phase 0, 1 or 3: `allowed_prefix`
+  pub publishes-some : (n : ℕ) → let T = applyAll (take n (publishOne t w)) S in (T ≡ phase S w t 0) ⊎ ((T ≡ phase S w t 1) ⊎ (T ≡ phase S w t 3))
+  unfolding publishOne
+  publishes-some zero = inl refl
+  publishes-some (suc zero) = by (eqb (w .base .0) 0)
+      (λ k. inr (inr (rw k (rw k at publishes-one))))
+      (λ k. inr (inl (rw k)))
+  publishes-some (suc (suc n)) = inr (inr (rw (both-puts n) publishes-one))
+
+-- a write's new version has the base next to it
+abbrev pub overBase : List ℕ → Write → Bool
+overBase next w = eqb (getD next (w .new .0) 0) (w .base .0)
+
+-- writes published one after the other, each to phase 3
+abbrev pub phases : ℕ → List Write → Store → Store
+phases t [] T = T
+phases t (w ∷ ws) T = phases t ws (phase T w t 3)
+
+-- publication leaves every next
+next-left : (t : ℕ) (w : Write) (T : Store) → applyAll (publishOne t w) T .next ≡ T .next
+unfolding publishOne
+next-left t w T = by (eqb (w .base .0) 0) (λ k. rw k) (λ k. rw k)
+
+-- so the puts of several writes are their phases 3
+pub publishes-list : (t : ℕ) (ws : List Write) (T : Store) → all (overBase (T .next)) ws ≡ true → applyAll (flat (publishOne t) ws) T ≡ phases t ws T
+publishes-list t [] T h = refl
+publishes-list t (w ∷ ws) T h =
+    let a = and-true (overBase (T .next) w) (all (overBase (T .next)) ws) h in
+    applyAll-append (publishOne t w) (flat (publishOne t) ws) T
+    ∙ publishes-list t ws (applyAll (publishOne t w) T) (subst (λ (l : List ℕ). all (overBase l) ws ≡ true) (sym (next-left t w T)) (a .1))
+    ∙ ap (phases t ws) (publishes-one T w t (eqb-true (getD (T .next) (w .new .0) 0) (w .base .0) (a .0)))
+
+-- a fit transaction's final writes are so
+pub finals-over : (S : Store) (x : Tx) → fit S x ≡ true → all (overBase (S .next)) (finals x) ≡ true
+unfolding finals
+finals-over S x f =
+    let seen = walk (S .heads) (S .next) .seen in
+    finals-all (overBase (S .next)) (writesOf x)
+    (all-then (writeFit (S .xmin) (S .next) seen (x .txid .0)) (overBase (S .next)) (λ w h. write-parts (S .xmin) (S .next) seen (x .txid .0) w h .over) (writesOf x) (fit-parts S x f .writes))
+
+module _ (S : Store) (x : Tx) (ok : Ready S x) where
+  -- postings in and out: 002's `removed`
+  abbrev pub moved : Store
+  moved = applyAll (removals S x) (applyAll (insertions S x) S)
+
+  -- 002's `committed`: each final write at phase 3, guards and poison as they were, destinations in and sources out, the postings exactly the heads'
+  pub record Segment (T : Store) : Type 0 where
+    pub rows : T ≡ phases (x .txid .0) (finals x) moved
+    pub postings : (p : ℕ) → memb p (postingsOf T) ≡ (not (memb p (ss S x ok)) && (memb p (ds S x ok) || memb p (P S x ok)))
+    pub guards : (T .«stripe_guards» ≡ S .«stripe_guards») × (T .«partition_guards» ≡ S .«partition_guards»)
+    pub poison : T .poisoned ≡ S .poisoned
+    pub matches : Exact T
+
+  -- steps 15, 17 and 18
+  pub segment : Segment (applyAll (insertions S x ++ (removals S x ++ publication x)) S)
+  unfolding publication
+  segment =
+      let t = x .txid .0 in
+      let ps = flat (publishOne t) (finals x) in
+      let ks = kXmax ∷ kHead ∷ [] in
+      let o = publish-only t (finals x) in
+      let m = removes-all S x ok in
+      let e : applyAll (insertions S x ++ (removals S x ++ ps)) S ≡ applyAll ps moved
+      = applyAll-append (insertions S x) (removals S x ++ ps) S ∙ applyAll-append (removals S x) ps (applyAll (insertions S x) S) in
+      let n : moved .next ≡ S .next = ap (λ (T : Store). T .next) (m .rest) in
+      let over : all (overBase (moved .next)) (finals x) ≡ true = subst (λ (l : List ℕ). all (overBase l) (finals x) ≡ true) (sym n) (finals-over S x (ok .fits)) in
+      record {
+        rows = e ∙ publishes-list t (finals x) moved over;
+        postings = λ p. rw (e, postings-kept ks refl refl ps moved o) (m .are p);
+        guards = (
+          ap (λ (T : Store). T .«stripe_guards») e ∙ kept (λ T. T .«stripe_guards») ks (λ p T k. rw (is-not ks kStripe refl p k)) ps moved o ∙ ap (λ (T : Store). T .«stripe_guards») (m .rest),
+          ap (λ (T : Store). T .«partition_guards») e ∙ kept (λ T. T .«partition_guards») ks (λ p T k. rw (is-not ks kPartition refl p k)) ps moved o ∙ ap (λ (T : Store). T .«partition_guards») (m .rest),
+        );
+        poison = ap (λ (T : Store). T .poisoned) e ∙ kept (λ T. T .poisoned) ks (λ p T k. rw (is-not ks kPoison refl p k, is-not ks kDoom refl p k)) ps moved o ∙ ap (λ (T : Store). T .poisoned) (m .rest);
+        matches = changed-exact S x ok;
+      }

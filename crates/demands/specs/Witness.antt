@@ -1,0 +1,66 @@
+-- Source 002's witnesses, on stores that the calls reach: a row created with key 42, moved from 42 to 77, and deleted.
+use mathlib.Core.Path.{_≡_, refl}
+use mathlib.Core.Bool.{false}
+use mathlib.Core.List.{List, [], _∷_}
+use Prim.Native.Nat.{ℕ}
+use Rattle.types.specs.Zero.{fresh, noFaults}
+use Rattle.rules.specs.Types.{Store, Value, Absent, Key, Written, Uncut}
+use Rattle.rules.specs.Store.{posting, postingsOf}
+use Rattle.rules.specs.Numbers.{numberOf}
+use Rattle.rules.specs.Calls.{begin, write}
+use Rattle.rules.specs.Changes.{Change, changes}
+use Rattle.rules.specs.Answer.{commit}
+use Rattle.rules.specs.Computing.{computing}
+use Rattle.laws.specs.Sized.{Sized}
+use Rattle.index.specs.Undone.{Ready}
+
+-- begin, and row 3 written
+unfoldable pub wrote : Store → Value → Written
+wrote S v = write (begin S .store) (begin S .tx) 3 v
+
+-- .. and committed
+unfoldable pub after : Written → Store
+after w = commit (w .store) (w .tx) false noFaults Uncut .store
+
+unfoldable pub created : Written
+created = wrote fresh (Key 42)
+
+unfoldable pub moved : Written
+moved = wrote (after created) (Key 77)
+
+unfoldable pub deleted : Written
+deleted = wrote (after created) Absent
+
+-- a commit that is past its tests, with one change of row 3, that succeeds and leaves these postings
+pub record Witness (w : Written) (old new : Value) (left : List ℕ) : Type 0 where
+  pub planned : Ready (w .store) (w .tx)
+  pub change : changes (w .store) (w .tx) ≡ record { row = 3; before = old; after = new } ∷ []
+  pub commits : numberOf (commit (w .store) (w .tx) false noFaults Uncut .refusal) ≡ 0
+  pub postings : postingsOf (after w) ≡ left
+
+pub create : Witness created Absent (Key 42) (posting 42 3 ∷ [])
+unfolding wrote after created computing
+create = record {
+  planned = record { rests = refl; healthy = refl; fits = refl; agreed = refl; sized = record { heads = refl; xmin = refl; xmax = refl; next = refl; key = refl; has = refl; locked = refl; owner = refl; postings = refl; «stripe_guards» = refl; «partition_guards» = refl; stamps = refl; active = refl } };
+  change = refl;
+  commits = refl;
+  postings = refl;
+}
+
+pub move : Witness moved (Key 42) (Key 77) (posting 77 3 ∷ [])
+unfolding wrote after created moved computing
+move = record {
+  planned = record { rests = refl; healthy = refl; fits = refl; agreed = refl; sized = record { heads = refl; xmin = refl; xmax = refl; next = refl; key = refl; has = refl; locked = refl; owner = refl; postings = refl; «stripe_guards» = refl; «partition_guards» = refl; stamps = refl; active = refl } };
+  change = refl;
+  commits = refl;
+  postings = refl;
+}
+
+pub delete : Witness deleted (Key 42) Absent []
+unfolding wrote after created deleted computing
+delete = record {
+  planned = record { rests = refl; healthy = refl; fits = refl; agreed = refl; sized = record { heads = refl; xmin = refl; xmax = refl; next = refl; key = refl; has = refl; locked = refl; owner = refl; postings = refl; «stripe_guards» = refl; «partition_guards» = refl; stamps = refl; active = refl } };
+  change = refl;
+  commits = refl;
+  postings = refl;
+}
