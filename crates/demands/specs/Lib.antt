@@ -4,4 +4,5 @@ pub mod Demand2
 pub mod Postings
 pub mod Publication
 pub mod Segment
+pub mod Held
 pub mod Witness
