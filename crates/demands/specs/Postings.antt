@@ -13,10 +13,11 @@ use Rattle.rules.specs.Types.{Store, Tx, Schedule}
 use Rattle.rules.specs.Bools.{by, clash, and-true, or-true, or-left, or-right}
 use Rattle.rules.specs.Lists.{all, memb, into, without}
 use Rattle.rules.specs.Store.{postingsOf}
-use Rattle.rules.specs.Puts.{putInsert, putRemove, apply, applyAll}
+use Rattle.rules.specs.Puts.{putInsert, putRemove, putPoison, apply, applyAll}
 use Rattle.rules.specs.Changes.{changes, destinations, sources, insertions, removals}
 use Rattle.rules.specs.Commit.{Clean, fails, rollback}
 use Rattle.laws.specs.Lists.{all-mem, mem-all}
+use Rattle.laws.specs.Beside.{beside}
 use Rattle.laws.specs.Abort.{rollback-flag}
 use Rattle.index.specs.All.{all-append, all-take}
 use Rattle.index.specs.Rising.{mem-into, mem-without, into-length, without-length}
@@ -39,6 +40,10 @@ insert-members c T h p = rw (insert-one c T, posted-of (into c (postingsOf T)) T
 pub remove-members : (c : ℕ) (T : Store) → length (postingsOf T) ≤ postingLimit → (p : ℕ)
     → memb p (postingsOf (apply (putRemove c) T)) ≡ (not (eqb p c) && memb p (postingsOf T))
 remove-members c T h p = rw (remove-one c T, posted-of (without c (postingsOf T)) T (omega (arith, without-length c (postingsOf T)))) (mem-without c (postingsOf T) p)
+
+-- poison_indexes: the flag, and nothing else
+pub poison-one : (T : Store) → apply putPoison T ≡ beside (T .«stripe_guards») (T .«partition_guards») (T .postings) (T .«posting_count») true T
+poison-one T = refl
 
 -- numbers taken out make a list no longer
 withoutAll-length : (cs l : List ℕ) → length (withoutAll cs l) ≤ length l

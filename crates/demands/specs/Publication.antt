@@ -1,25 +1,31 @@
 -- Source 002's clauses about publication and about the whole of steps 15, 17 and 18.
 use mathlib.Core.Path.{_≡_, refl, sym, ap, _∙_, subst}
-use mathlib.Core.Bool.{Bool, true, not, cond, _&&_, _||_}
+use mathlib.Core.Bool.{Bool, true, false, not, cond, _&&_, _||_}
 use mathlib.Core.List.{List, [], _∷_, _++_}
 use mathlib.Core.Logic.{_⊎_, inl, inr}
-use Prim.Native.Nat.{ℕ, zero, suc}
+use Prim.Native.Nat.{ℕ, zero, suc, _<_}
 use native.Mathlib.Omega.{arith}
-use lib.ListN.{getD, set, take}
+use lib.ListN.{length, getD, set, take}
 use lib.Seq.{take-all}
 use lib.Dec.{eqb}
 use borrow.Author.Tests.{eqb-true}
+use Rattle.types.specs.Limits.{rows}
 use Rattle.rules.specs.Types.{Store, Tx, Txid, SlotPtr, RowId, Write}
 use Rattle.rules.specs.Bools.{by, and-true}
 use Rattle.rules.specs.Lists.{all, flat, memb}
 use Rattle.rules.specs.Store.{postingsOf}
 use Rattle.rules.specs.Transaction.{writesOf, finals}
 use Rattle.rules.specs.Chains.{walk}
+use Rattle.rules.specs.Admitted.{finished, resting}
 use Rattle.rules.specs.Fit.{writeFit, fit}
 use Rattle.rules.specs.Puts.{kStripe, kPartition, kXmax, kHead, kPoison, kDoom, putXmax, putNext, putHead, apply, applyAll}
 use Rattle.rules.specs.Changes.{publishOne, insertions, removals, publication}
 use Rattle.rules.specs.Only.{kept, is-not}
 use Rattle.rules.specs.Guards.{applyAll-append}
+use Rattle.laws.specs.Sized.{Sized}
+use Rattle.laws.specs.Chain.{IsChain}
+use Rattle.laws.specs.Chained.{Chains}
+use Rattle.laws.specs.Check.{Tail}
 use Rattle.laws.specs.Finals.{finals-all}
 use Rattle.laws.specs.Parts.{WriteFit, write-parts, Fit, fit-parts}
 use Rattle.laws.specs.Published.{publish-only}
@@ -27,6 +33,9 @@ use Rattle.index.specs.All.{all-then}
 use Rattle.index.specs.Resting.{Exact}
 use Rattle.index.specs.Undone.{Ready}
 use Rattle.index.specs.Exact.{postings-kept, changed-exact}
+use Rattle.heart.specs.Meaning.{Mends, Stands, SlotForm, Free}
+use Rattle.heart.specs.Resting.{Rests, rests}
+use Rattle.heart.specs.Start.{tails}
 use Rattle.demands.specs.Postings.{Moved, ds, ss, P, removes-all}
 
 -- 002's `publication_prefix`, word for word: phase 0 is nothing, 1 the base marked, 2 the new version linked, 3 the head moved
@@ -76,6 +85,19 @@ module _ (S : Store) (w : Write) (t : ℕ) (over : getD (S .next) (w .new .0) 0 
       (λ k. inr (inr (rw k (rw k at publishes-one))))
       (λ k. inr (inl (rw k)))
   publishes-some (suc (suc n)) = inr (inr (rw (both-puts n) publishes-one))
+
+-- compare_xmax finds what it expects: every head of a resting store that isn't poisoned has xmax 0
+pub head-unmarked : (S : Store) → Sized S → resting S ≡ true → S .poisoned ≡ false → (r : ℕ) → r < rows → getD (S .xmax) (getD (S .heads) r 0) 0 ≡ 0
+head-unmarked S z h healthy r lt =
+    let R = rests S z h in
+    let l : r < length (S .heads) = omega (arith, z .heads) in
+    let M = R .1 .mends in
+    go (R .0 r) (M .stands .chains .chain r l) (tails S (R .0) (R .1) healthy r l) (M .slots .free 0 (M .slots .first) .unmarked)
+  where
+    go : (c : List ℕ) → IsChain (S .next) (getD (S .heads) r 0) c → Tail (S .xmin) (S .xmax) (finished (S .active) (S .doomed)) 0 c → getD (S .xmax) 0 0 ≡ 0
+        → getD (S .xmax) (getD (S .heads) r 0) 0 ≡ 0
+    go [] c t none = rw c none
+    go (p ∷ l) c t none = rw (c .0) (t .1)
 
 -- a write's new version has the base next to it
 abbrev pub overBase : List ℕ → Write → Bool

@@ -3,9 +3,10 @@ use mathlib.Core.Path.{_≡_, refl}
 use mathlib.Core.Bool.{false}
 use mathlib.Core.List.{List, [], _∷_}
 use Prim.Native.Nat.{ℕ}
+use lib.ListN.{getD}
 use Rattle.types.specs.Zero.{fresh, noFaults}
 use Rattle.rules.specs.Types.{Store, Value, Absent, Key, Written, Uncut}
-use Rattle.rules.specs.Store.{posting, postingsOf}
+use Rattle.rules.specs.Store.{posting, postingsOf, valueAt}
 use Rattle.rules.specs.Numbers.{numberOf}
 use Rattle.rules.specs.Calls.{begin, write}
 use Rattle.rules.specs.Changes.{Change, changes}
@@ -64,3 +65,13 @@ delete = record {
   commits = refl;
   postings = refl;
 }
+
+-- the executable witness of publication: in what `move` commits, the head, the base's mark, the new version's next, and both values
+pub move-rows : let S = after moved in
+    (getD (S .heads) 3 0 ≡ 2)
+    × (getD (S .xmax) 1 0 ≡ 2)
+    × (getD (S .next) 2 0 ≡ 1)
+    × (valueAt (S .key) (S .has) 1 ≡ Key 42)
+    × (valueAt (S .key) (S .has) 2 ≡ Key 77)
+unfolding wrote after created moved computing
+move-rows = (refl, refl, refl, refl, refl)
