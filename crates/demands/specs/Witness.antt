@@ -5,15 +5,17 @@ use mathlib.Core.List.{List, [], _∷_}
 use Prim.Native.Nat.{ℕ}
 use lib.ListN.{getD}
 use Rattle.types.specs.Zero.{fresh, noFaults}
-use Rattle.rules.specs.Types.{Store, Value, Absent, Key, Written, Uncut}
+use Rattle.rules.specs.Types.{Store, Tx, Value, Absent, Key, Written, Uncut}
 use Rattle.rules.specs.Store.{posting, postingsOf, valueAt}
 use Rattle.rules.specs.Numbers.{numberOf}
 use Rattle.rules.specs.Calls.{begin, write}
 use Rattle.rules.specs.Changes.{Change, changes}
 use Rattle.rules.specs.Answer.{commit}
 use Rattle.rules.specs.Computing.{computing}
-use Rattle.laws.specs.Sized.{Sized}
+use Rattle.rules.specs.Rows.{Admitted}
+use Rattle.rules.specs.Tests.{writeBaseConflict}
 use Rattle.index.specs.Undone.{Ready}
+use Rattle.demands.specs.Exhibits.{Meets, meets}
 
 -- begin, and row 3 written
 unfoldable pub wrote : Store → Value → Written
@@ -39,10 +41,14 @@ pub record Witness (w : Written) (old new : Value) (left : List ℕ) : Type 0 wh
   pub commits : numberOf (commit (w .store) (w .tx) false noFaults Uncut .refusal) ≡ 0
   pub postings : postingsOf (after w) ≡ left
 
+-- past its tests, from what there is to compute
+ready-by : {S : Store} {x : Tx} → Meets S x → S .poisoned ≡ false → writeBaseConflict (S .heads) x ≡ false → Ready S x
+ready-by m h b = record { rests = m .ok .rests; healthy = h; fits = m .ok .fits; agreed = b; sized = m .sized }
+
 pub create : Witness created Absent (Key 42) (posting 42 3 ∷ [])
 unfolding wrote after created computing
 create = record {
-  planned = record { rests = refl; healthy = refl; fits = refl; agreed = refl; sized = record { heads = refl; xmin = refl; xmax = refl; next = refl; key = refl; has = refl; locked = refl; owner = refl; postings = refl; «stripe_guards» = refl; «partition_guards» = refl; stamps = refl; active = refl } };
+  planned = ready-by (meets (created .store) (created .tx) refl refl refl refl refl refl) refl refl;
   change = refl;
   commits = refl;
   postings = refl;
@@ -51,7 +57,7 @@ create = record {
 pub move : Witness moved (Key 42) (Key 77) (posting 77 3 ∷ [])
 unfolding wrote after created moved computing
 move = record {
-  planned = record { rests = refl; healthy = refl; fits = refl; agreed = refl; sized = record { heads = refl; xmin = refl; xmax = refl; next = refl; key = refl; has = refl; locked = refl; owner = refl; postings = refl; «stripe_guards» = refl; «partition_guards» = refl; stamps = refl; active = refl } };
+  planned = ready-by (meets (moved .store) (moved .tx) refl refl refl refl refl refl) refl refl;
   change = refl;
   commits = refl;
   postings = refl;
@@ -60,7 +66,7 @@ move = record {
 pub delete : Witness deleted (Key 42) Absent []
 unfolding wrote after created deleted computing
 delete = record {
-  planned = record { rests = refl; healthy = refl; fits = refl; agreed = refl; sized = record { heads = refl; xmin = refl; xmax = refl; next = refl; key = refl; has = refl; locked = refl; owner = refl; postings = refl; «stripe_guards» = refl; «partition_guards» = refl; stamps = refl; active = refl } };
+  planned = ready-by (meets (deleted .store) (deleted .tx) refl refl refl refl refl refl) refl refl;
   change = refl;
   commits = refl;
   postings = refl;
