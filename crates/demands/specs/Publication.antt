@@ -18,7 +18,7 @@ use Rattle.rules.specs.Transaction.{writesOf, finals}
 use Rattle.rules.specs.Chains.{walk}
 use Rattle.rules.specs.Admitted.{finished, resting}
 use Rattle.rules.specs.Fit.{writeFit, fit}
-use Rattle.rules.specs.Puts.{kStripe, kPartition, kXmax, kHead, kPoison, kDoom, putXmax, putNext, putHead, apply, applyAll}
+use Rattle.rules.specs.Puts.{Put, kStripe, kPartition, kXmax, kHead, kPoison, kDoom, putXmax, putNext, putHead, apply, applyAll}
 use Rattle.rules.specs.Changes.{publishOne, insertions, removals, publication}
 use Rattle.rules.specs.Only.{kept, is-not}
 use Rattle.rules.specs.Guards.{applyAll-append}
@@ -121,6 +121,42 @@ publishes-list t (w ∷ ws) T h =
     applyAll-append (publishOne t w) (flat (publishOne t) ws) T
     ∙ publishes-list t ws (applyAll (publishOne t w) T) (subst (λ (l : List ℕ). all (overBase l) ws ≡ true) (sym (next-left t w T)) (a .1))
     ∙ ap (phases t ws) (publishes-one T w t (eqb-true (getD (T .next) (w .new .0) 0) (w .base .0) (a .0)))
+
+-- what the first puts of several writes leave of T: some writes at phase 3, and perhaps the next at phase 1
+pub data Prefix (t : ℕ) (D : Store) : List Write → Store → Type 0 where
+  here : {ws : List Write} {T : Store} → D ≡ T → Prefix t D ws T
+  half : {w : Write} {ws : List Write} {T : Store} → D ≡ phase T w t 1 → Prefix t D (w ∷ ws) T
+  more : {w : Write} {ws : List Write} {T : Store} → Prefix t D ws (phase T w t 3) → Prefix t D (w ∷ ws) T
+
+-- the rest of the puts, as many as are left of n, on the store after a write
+module _ (t : ℕ) (w : Write) (ws : List Write) (rest : List Put) (T : Store) where
+  abbrev Rest : Store → Type 0
+  Rest U = (m : ℕ) → Prefix t (applyAll (take m rest) U) ws U
+
+  head-then : (U : Store) → U ≡ apply (putHead (w .row .0) (w .new .0)) T → U ≡ phase T w t 3 → Rest U → (n : ℕ)
+      → Prefix t (applyAll (take n (putHead (w .row .0) (w .new .0) ∷ rest)) T) (w ∷ ws) T
+  head-then U e f ih zero = here refl
+  head-then U e f ih (suc m) = more (subst (λ (X : Store). Prefix t (applyAll (take m rest) X) ws (phase T w t 3)) e (subst (λ (X : Store). Prefix t (applyAll (take m rest) U) ws X) f (ih m)))
+
+  mark-then : (U : Store) → U ≡ apply (putHead (w .row .0) (w .new .0)) (apply (putXmax (w .base .0) t) T) → U ≡ phase T w t 3 → apply (putXmax (w .base .0) t) T ≡ phase T w t 1 → Rest U → (n : ℕ)
+      → Prefix t (applyAll (take n (putXmax (w .base .0) t ∷ putHead (w .row .0) (w .new .0) ∷ rest)) T) (w ∷ ws) T
+  mark-then U e f k ih zero = here refl
+  mark-then U e f k ih (suc zero) = half k
+  mark-then U e f k ih (suc (suc m)) = more (subst (λ (X : Store). Prefix t (applyAll (take m rest) X) ws (phase T w t 3)) e (subst (λ (X : Store). Prefix t (applyAll (take m rest) U) ws X) f (ih m)))
+
+pub publishes-prefix : (t : ℕ) (ws : List Write) (T : Store) (n : ℕ) → all (overBase (T .next)) ws ≡ true → Prefix t (applyAll (take n (flat (publishOne t) ws)) T) ws T
+unfolding publishOne
+publishes-prefix t [] T n h = here (ap (λ (ps : List Put). applyAll ps T) (take-all n [] (omega arith)))
+publishes-prefix t (w ∷ ws) T n h =
+    let a = and-true (overBase (T .next) w) (all (overBase (T .next)) ws) h in
+    let rest = flat (publishOne t) ws in
+    let U = applyAll (publishOne t w) T in
+    let one : U ≡ phase T w t 3 = publishes-one T w t (eqb-true (getD (T .next) (w .new .0) 0) (w .base .0) (a .0)) in
+    let ih : (m : ℕ) → Prefix t (applyAll (take m rest) U) ws U
+    = λ m. publishes-prefix t ws U m (subst (λ (l : List ℕ). all (overBase l) ws ≡ true) (sym (next-left t w T)) (a .1)) in
+    by (eqb (w .base .0) 0)
+    (λ k. rw k (head-then t w ws rest T U (rw k) one ih n))
+    (λ k. rw k (mark-then t w ws rest T U (rw k) one (rw k) ih n))
 
 -- a fit transaction's final writes are so
 pub finals-over : (S : Store) (x : Tx) → fit S x ≡ true → all (overBase (S .next)) (finals x) ≡ true
