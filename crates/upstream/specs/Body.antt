@@ -7,12 +7,10 @@ use lib.ListN.{length, getD}
 use lib.Dec.{ltb, leb}
 use Rattle.rules.specs.Types.{Store, Tx, Schedule, Events}
 use Rattle.rules.specs.Transaction.{finals}
-use Rattle.rules.specs.Faults.{B, P}
-use Rattle.rules.specs.Tests.{indexReadConflict, rowLockConflict, serializationConflict, writeBaseConflict}
 use Rattle.rules.specs.EventLaws.{safeRelease}
-use Rattle.rules.specs.Commit.{Clean, strikes, unloggedWrites}
-use Rattle.rules.specs.Outcome.{aborting, rollingBack, worse, panics, undoing, abortingLate}
-use Rattle.rules.specs.Gates.{hit}
+use Rattle.rules.specs.Commit.{Clean, Run, runOf}
+use Rattle.rules.specs.Outcome.{aborting, rollingBack, worse, undoing, abortingLate}
+use Rattle.rules.specs.Gates.{Gate, hit, gates}
 use Rattle.upstream.specs.Primitives.{indexValidated, rowLockValidated, serialValidated, baseValidated, Call, here, ensureOpen, finalWriteIndices, indexChanges, indexLockKeys, acquireIndexLocks, acquirePartitionLocks, ensureUnloggedWriteAllowed, unboundIfOk, checkNotPoisoned, soundIfOk, abortForSerializationFailure, testing, prepareCommitRecord, runPrepare, poisonIndexes, poisonIf, abortPreparation, prepareIndexDestinations, runBeforePublish, resumeUnwind, rollbackPreparedCommit, removeIndexSources, publishPreparedWriteSet, publishWriteSet, recycleNonFinalWrites, flushLocalRecycleCaches, finishTransaction, publishIndexStamps, releasePartitionLocks, releaseIndexLocks}
 
 abbrev pub letGo : List Call
@@ -35,19 +33,11 @@ callbackFailed poisons unrolled unaborted =
     ∷ here (λ s. not (s .«destinations_prepared») || (s .poisoned && safeRelease s))
     ∷ letGo
 
--- the steps passed, and the calls of the step that ended the run
-pub record Story : Type 0 where
-  pub passed : ℕ
-  pub calls : List Call
-
--- the story of the first test that holds, t if none does
-pub record Tale : Type 0 where
-  pub when : Bool
-  pub then : Story
-
-abbrev pub firstTale : List Tale → Story → Story
-firstTale [] t = t
-firstTale (a ∷ l) t = cond (a .when) (a .then) (firstTale l t)
+-- the calls of the first gate that holds, none if none does
+abbrev pub endingOf : List Gate → List (List Call) → List Call
+endingOf [] ds = []
+endingOf (g ∷ gs) [] = []
+endingOf (g ∷ gs) (d ∷ ds) = cond (g .when) d (endingOf gs ds)
 
 -- the events when n steps are passed
 unfoldable pub standing : Bool → Bool → Bool → ℕ → Events
@@ -120,48 +110,41 @@ module _ (S : Store) (x : Tx) (logged : Bool) (plan : Schedule) where
   upTo zero = []
   upTo (suc n) = upTo n ++ said (suc n)
 
-  abbrev pub tale : Bool → ℕ → List Call → Tale
-  tale b n cs = record { when = b; then = record { passed = n; calls = cs } }
-
   abbrev pub unaborted : Bool
   unaborted = aborting S x logged plan .failed
 
-  -- by the gates of the crate `rules`: the call that failed, then what 000 does about it
-  unfoldable pub tales : List Tale
-  tales =
-      tale (hit S x logged plan 3) 2 (indexChanges ∷ [])
-      ∷ tale (hit S x logged plan 4) 3 (indexLockKeys ∷ [])
-      ∷ tale (logged && hit S x logged plan 5) 4 (prepareCommitRecord false ∷ abortPreparation (not unaborted))
-      ∷ tale (logged && hit S x logged plan 6) 5 (runPrepare false ∷ abortPreparation (not unaborted))
-      ∷ tale (logged && strikes S x logged plan 6 P) 5 (runPrepare false ∷ abortPreparation (not unaborted) ++ resumeUnwind ∷ [])
-      ∷ tale (hit S x logged plan 7) 6 (acquireIndexLocks false ∷ [])
-      ∷ tale (strikes S x logged plan 7 B) 6 (acquireIndexLocks false ∷ abortThen unaborted)
-      ∷ tale (hit S x logged plan 8) 7 (acquirePartitionLocks false ∷ releaseIndexLocks ∷ [])
-      ∷ tale (strikes S x logged plan 8 B) 7 (acquirePartitionLocks false ∷ releaseIndexLocks ∷ abortThen unaborted)
-      ∷ tale (unloggedWrites S x logged plan && hit S x logged plan 9) 8 (ensureUnloggedWriteAllowed ∷ letGo)
-      ∷ tale (unloggedWrites S x logged plan && S .bound) 8 (ensureUnloggedWriteAllowed ∷ letGo)
-      ∷ tale (hit S x logged plan 10 || S .poisoned) 9 (checkNotPoisoned false (not (hit S x logged plan 10)) ∷ letGo ++ abortPreparation (not unaborted))
-      ∷ tale (hit S x logged plan 11) 10 (testing indexValidated false ∷ letGo)
-      ∷ tale (indexReadConflict (S .stamps) x) 10 (testing indexValidated false ∷ letGo ++ abortThen unaborted)
-      ∷ tale (hit S x logged plan 12) 11 (testing rowLockValidated false ∷ letGo)
-      ∷ tale (rowLockConflict S x) 11 (testing rowLockValidated false ∷ letGo ++ abortThen unaborted)
-      ∷ tale (hit S x logged plan 13) 12 (testing serialValidated false ∷ letGo)
-      ∷ tale (serializationConflict (S .xmin) (S .xmax) x) 12 (testing serialValidated false ∷ letGo ++ abortThen unaborted)
-      ∷ tale (hit S x logged plan 14) 13 (testing baseValidated false ∷ letGo)
-      ∷ tale (writeBaseConflict (S .heads) x) 13 (testing baseValidated false ∷ letGo ++ abortThen unaborted)
-      ∷ tale (hit S x logged plan 15) 14 (prepareIndexDestinations false (rollingBack S x logged plan .failed) ∷ letGo)
-      ∷ tale (logged && (hit S x logged plan 16 || (worse S x logged plan || panics S x logged plan))) 15 (callbackFailed (worse S x logged plan) (undoing S x logged plan .failed) (abortingLate S x logged plan .failed))
-      ∷ tale (hit S x logged plan 17) 16 (removeIndexSources false ∷ letGo)
-      ∷ tale (hit S x logged plan 18) 17 (publish logged ∷ poisonIndexes ∷ finishTransaction (not (hit S x logged plan 21)) ∷ letGo)
-      ∷ tale (hit S x logged plan 19) 18 (recycleNonFinalWrites ∷ poisonIndexes ∷ finishTransaction (not (hit S x logged plan 21)) ∷ letGo)
-      ∷ tale (hit S x logged plan 21) 20 (finishTransaction false ∷ poisonIndexes ∷ letGo)
-      ∷ tale (hit S x logged plan 22) 21 (publishIndexStamps false ∷ poisonIndexes ∷ letGo)
+  -- for each of the gates: the call that failed, then what 000 does about it
+  unfoldable pub endings : List (List Call)
+  endings =
+      (indexChanges ∷ [])  -- 3
+      ∷ (indexLockKeys ∷ [])  -- 4
+      ∷ (prepareCommitRecord false ∷ abortPreparation (not unaborted))  -- 5
+      ∷ (runPrepare false ∷ abortPreparation (not unaborted))  -- 6 fails
+      ∷ (runPrepare false ∷ abortPreparation (not unaborted) ++ resumeUnwind ∷ [])  -- 6 panics
+      ∷ (acquireIndexLocks false ∷ [])  -- 7 fails
+      ∷ (acquireIndexLocks false ∷ abortThen unaborted)  -- 7 busy
+      ∷ (acquirePartitionLocks false ∷ releaseIndexLocks ∷ [])  -- 8 fails
+      ∷ (acquirePartitionLocks false ∷ releaseIndexLocks ∷ abortThen unaborted)  -- 8 busy
+      ∷ (ensureUnloggedWriteAllowed ∷ letGo)  -- 9 fails
+      ∷ (ensureUnloggedWriteAllowed ∷ letGo)  -- durably bound
+      ∷ (checkNotPoisoned false (not (hit S x logged plan 10)) ∷ letGo ++ abortPreparation (not unaborted))  -- 10 fails, or poisoned
+      ∷ (testing indexValidated false ∷ letGo)  -- 11 fails
+      ∷ (testing indexValidated false ∷ letGo ++ abortThen unaborted)  -- 11 says yes
+      ∷ (testing rowLockValidated false ∷ letGo)
+      ∷ (testing rowLockValidated false ∷ letGo ++ abortThen unaborted)
+      ∷ (testing serialValidated false ∷ letGo)
+      ∷ (testing serialValidated false ∷ letGo ++ abortThen unaborted)
+      ∷ (testing baseValidated false ∷ letGo)
+      ∷ (testing baseValidated false ∷ letGo ++ abortThen unaborted)
+      ∷ (prepareIndexDestinations false (rollingBack S x logged plan .failed) ∷ letGo)  -- 15
+      ∷ callbackFailed (worse S x logged plan) (undoing S x logged plan .failed) (abortingLate S x logged plan .failed)  -- 16
+      ∷ (removeIndexSources false ∷ letGo)  -- 17
+      ∷ (publish logged ∷ poisonIndexes ∷ finishTransaction (not (hit S x logged plan 21)) ∷ letGo)  -- 18
+      ∷ (recycleNonFinalWrites ∷ poisonIndexes ∷ finishTransaction (not (hit S x logged plan 21)) ∷ letGo)  -- 19
+      ∷ (finishTransaction false ∷ poisonIndexes ∷ letGo)  -- 21
+      ∷ (publishIndexStamps false ∷ poisonIndexes ∷ letGo)  -- 22
       ∷ []
 
-  -- the first gate that holds, or all steps
-  abbrev pub story : Story
-  story = firstTale tales (record { passed = 23; calls = [] })
-
-  -- the calls of a run
+  -- the calls of a run: those of the steps it passed, then those of the gate that ended it
   abbrev pub told : List Call
-  told = upTo (story .passed) ++ story .calls
+  told = upTo (runOf S x logged plan .passed) ++ endingOf (gates S x logged plan) endings

@@ -19,7 +19,7 @@ use Rattle.rules.specs.Answer.{eventsOf, uncut, commit}
 use Rattle.rules.specs.EventLaws.{ev}
 use Rattle.rules.specs.Rows.{Admitted, whole}
 use Rattle.upstream.specs.Primitives.{initial, Call, met, play}
-use Rattle.upstream.specs.Body.{Story, Tale, firstTale, standing, stand, onward, said, upTo, callbackFailed, tales, story, told}
+use Rattle.upstream.specs.Body.{endingOf, standing, stand, onward, said, upTo, callbackFailed, endings, told}
 
 met-append : (cs ds : List Call) (s : Events) → met (cs ++ ds) s ≡ (met cs s && met ds (play cs s))
 met-append [] ds s = refl
@@ -165,27 +165,27 @@ module _ (S : Store) (x : Tx) (logged : Bool) (plan : Schedule) where
     unfolding standing onward
     to-23 = next 22 to-22 refl refl
 
-  -- a run and its calls: each finds what it asks, and they leave the events of the run
-  pub record Told (r : Run) (t : Story) : Type 0 where
-    pub leads : Leads start (upTo S x logged plan (t .passed) ++ t .calls) (ev S x logged plan (r .passed) (r .end))
+  -- a run and the calls that end it: each call finds what it asks, and they leave the events of the run
+  pub record Told (r : Run) (ds : List Call) : Type 0 where
+    pub leads : Leads start (upTo S x logged plan (r .passed) ++ ds) (ev S x logged plan (r .passed) (r .end))
 
-  -- gates and tales side by side, by the same tests
-  pub record Along (gs : List Gate) (r : Run) (ts : List Tale) (t : Story) : Type 0 where
-    pub are : Told (first gs r) (firstTale ts t)
+  -- gates and their endings side by side
+  pub record Along (gs : List Gate) (r : Run) (es : List (List Call)) : Type 0 where
+    pub are : Told (first gs r) (endingOf gs es)
 
-  over : {r : Run} {t : Story} → Told r t → Along [] r [] t
+  over : {r : Run} → Told r [] → Along [] r []
   over h = record { are = h }
 
-  gate : {b : Bool} {r u : Run} {t v : Story} {gs : List Gate} {ts : List Tale} → (b ≡ true → Told r t) → (b ≡ false → Along gs u ts v)
-      → Along (record { when = b; then = r } ∷ gs) u (record { when = b; then = t } ∷ ts) v
-  gate {b} {r} {u} {t} {v} {gs} {ts} f g = record { are = go b f (λ e. g e .are) }
+  gate : {b : Bool} {r u : Run} {ds : List Call} {gs : List Gate} {es : List (List Call)} → (b ≡ true → Told r ds) → (b ≡ false → Along gs u es)
+      → Along (record { when = b; then = r } ∷ gs) u (ds ∷ es)
+  gate {b} {r} {u} {ds} {gs} {es} f g = record { are = go b f (λ e. g e .are) }
     where
-      go : (c : Bool) → (c ≡ true → Told r t) → (c ≡ false → Told (first gs u) (firstTale ts v)) → Told (cond c r (first gs u)) (cond c t (firstTale ts v))
+      go : (c : Bool) → (c ≡ true → Told r ds) → (c ≡ false → Told (first gs u) (endingOf gs es)) → Told (cond c r (first gs u)) (cond c ds (endingOf gs es))
       go true f g = f refl
       go false f g = g refl
 
   ends : (n : ℕ) {ps : List Put} {d : End} {cs : List Call} → Reached n → met cs (stand S x logged plan n) ≡ true
-      → play cs (stand S x logged plan n) ≡ ev S x logged plan n d → Told (record { passed = n; puts = ps; end = d }) (record { passed = n; calls = cs })
+      → play cs (stand S x logged plan n) ≡ ev S x logged plan n d → Told (record { passed = n; puts = ps; end = d }) cs
   ends n h a l = record { leads = further h (record { asked = a; left = l }) }
 
   -- the abort fails
@@ -210,8 +210,8 @@ module _ (S : Store) (x : Tx) (logged : Bool) (plan : Schedule) where
   unlogged : unloggedWrites S x logged plan ≡ true → (logged ≡ false) × (ltb 0 (length (finals x)) ≡ true)
   unlogged h = let a = and-true (not logged) _ h in (not-true logged (a .0), a .1)
 
-  all-told : Along (gates S x logged plan) (clean S x logged plan) (tales S x logged plan) (record { passed = 23; calls = [] })
-  unfolding gates tales eventsOf standing
+  all-told : Along (gates S x logged plan) (clean S x logged plan) (endings S x logged plan)
+  unfolding gates endings eventsOf standing
   all-told =
       gate (λ h. ends 2 to-2 refl refl) (λ _.
       gate (λ h. ends 3 to-3 refl refl) (λ _.
@@ -247,7 +247,7 @@ module _ (S : Store) (x : Tx) (logged : Bool) (plan : Schedule) where
       gate (λ h. ends 21 (to-21 free) refl refl) (λ _.
       over (ends 23 (to-23 free) refl refl))))))))))))))))))))))))))))
 
-  run-told : Told (runOf S x logged plan) (story S x logged plan)
+  run-told : Told (runOf S x logged plan) (endingOf (gates S x logged plan) (endings S x logged plan))
   run-told = rw (run-gates S x logged plan) (all-told .are)
 
   -- an admitted commit that isn't cut: T is a test of numbers that 18 fails
