@@ -1,0 +1,6 @@
+-- source 000's primitives, as it specifies them
+pub mod Primitives
+-- its commit, as the calls that a run here makes
+pub mod Body
+-- whatever a call asks holds where it is reached, and the calls leave the events that commit answers
+pub mod Told
