@@ -36,7 +36,7 @@ use Rattle.index.specs.Exact.{postings-kept, changed-exact}
 use Rattle.heart.specs.Meaning.{Mends, Stands, SlotForm, Free}
 use Rattle.heart.specs.Resting.{Rests, rests}
 use Rattle.heart.specs.Start.{tails}
-use Rattle.demands.specs.Postings.{Moved, ds, ss, P, removes-all}
+use Rattle.upstream.specs.Postings.{Moved, ds, ss, P, removes-all}
 
 -- 002's `publication_prefix`, word for word: phase 0 is nothing, 1 the base marked, 2 the new version linked, 3 the head moved
 abbrev pub marked : Store → Write → ℕ → Store
