@@ -16,7 +16,7 @@ use denote.Laws.{Is, Ises, valss, shows, owns-make}
 use denote.Signature.{plain}
 use denote.Triple.Statement.{Contract, Triple}
 use denote.Triple.Spec.{tripleOf}
-use denote.Triple.Clauses.{Ended, Clauses, Lasts, lasts, closing}
+use denote.Triple.Clauses.{Ended, Lasts, lasts, closing}
 use Rattle.inplace.proofs.Datum.{Datum, Of, slots, keeps, rowsAt, Data, spells, machine, Fit, makess, vals, same, same-machine, same-fit}
 
 -- the signature of such a function

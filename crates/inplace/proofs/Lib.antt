@@ -2,6 +2,8 @@
 pub mod Datum
 pub mod Cells
 pub mod Callee
+-- From a walk to a contract.
+pub mod Frame
 -- The walk of a call that changes the store in place, and its contract.
 pub mod Walk
 pub mod Lent
