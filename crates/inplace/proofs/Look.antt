@@ -35,9 +35,9 @@ use denote.Triple.Clauses.{Clauses, closing}
 use denote.Triple.Walked.{Stay, stay-none-ref, goes-none-ref}
 use Rattle.inplace.proofs.Datum.{Datum, Of, ty, vals, typed, Data, machine, Fit, same}
 use Rattle.inplace.proofs.Cells.{locals, count, operands, env, behind, stand, first, allocs-all, passes-all, frees-all, reads-all, found}
-use Rattle.inplace.proofs.Callee.{Value, Gives, gives-at}
+use Rattle.inplace.proofs.Callee.{Value, Told, Gives, gives-at}
 use Rattle.inplace.proofs.Frame.{lent, Exit, Begins, Ends, ends, meets}
-use Rattle.inplace.proofs.Walk.{Told, told, cell-is}
+use Rattle.inplace.proofs.Walk.{told, cell-is}
 
 -- ---- the function
 module _ (S O : Datum) (Ds : List Datum) (core : Name) where
@@ -71,7 +71,7 @@ module _ {M : Type 1} (𝓤 : URA M) (H : Heap 𝓤) (A : Atoms 𝓤) (W : Given
       assigns ! (of-opd ! (load ! (from ! (hop ! (look ! 6 refl) (stop !))) (look-raw ! 0 refl))) (found ! at-copy) (init ! 4 refl (typed 𝓤 H A W S h _ is)) $
       rewrite ! 0 (λ (F : Fml). ‵ F) (sym (cell-is S q′ (S .val h) b o)) refl $ owned ! (S .row) (Is (S .row)) (S .makes 𝓤 H A W) h (vals S h) is $ move ! (1 ∷ 0 ∷ []) $ shuts ! tt (S .row) q′ h (vals S h) b o $
       -- [the token; the borrow; the parameters; the copy; …; the reference; …; the result; …; res]
-      nothing ! $ calls-from ! fm (‵ ftrue) (S .val h ∷ machine n κs Ds a) (Told 𝓤 H O x) (k-core is)
+      nothing ! $ calls-from ! fm (‵ ftrue) (S .val h ∷ machine n κs Ds a) (Told 𝓤 H A O x) (k-core is)
       (and-then ! (load ! (found ! at-copy) (look ! 4 refl)) (reads-all n κs ! 3 Ds bs a 2 refl (behind 𝓤 H _ _ 1 Ds bs (behind 𝓤 H _ _ 0 Ds bs (stand 𝓤 H Ds bs _))))) (λ v.
       told ! O x v (λ r is-r e. land ! (from ! (stop !)) (init ! 7 refl (typed 𝓤 H A W O r v is-r)) $
       returns ! (look ! 7 refl) $ forget ! 3 refl $ forget ! 5 refl $ forget ! 7 refl $
