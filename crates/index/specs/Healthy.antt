@@ -24,7 +24,8 @@ use Rattle.index.specs.Bools.{or-assoc, or-swap}
 use Rattle.index.specs.Resting.{Exact, Settled, exact, undoomed, settled}
 use Rattle.index.specs.Kept.{exact-kept, exact-freed}
 use Rattle.index.specs.Spared.{head-not-own}
-use Rattle.index.specs.Rolled.{take-map, ready, back-and-forth, called-run}
+use Rattle.index.specs.Undone.{take-map}
+use Rattle.index.specs.Rolled.{ready, back-and-forth, called-run}
 use Rattle.index.specs.Clean.{postings-exact}
 
 -- a poison among the puts, doom included
