@@ -42,7 +42,7 @@ poisoned-after [] S = refl
 poisoned-after (p ∷ ps) S = poisoned-after ps (apply p S) ∙ or-four (is p kPoison) (is p kDoom) (poisons ps) (S .poisoned)
 
 -- a poison in either of two lists
-poisons-later : (ps qs : List Put) → poisons qs ≡ true → poisons (ps ++ qs) ≡ true
+pub poisons-later : (ps qs : List Put) → poisons qs ≡ true → poisons (ps ++ qs) ≡ true
 poisons-later [] qs h = h
 poisons-later (p ∷ ps) qs h = or-right (is p kPoison || is p kDoom) (poisons (ps ++ qs)) (poisons-later ps qs h)
 

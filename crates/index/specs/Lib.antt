@@ -32,6 +32,7 @@ pub mod Called
 pub mod Stored
 pub mod Seen
 pub mod Reasons
+pub mod Fates
 -- All calls.
 pub mod Lookup
 pub mod Calls

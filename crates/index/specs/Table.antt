@@ -78,3 +78,16 @@ said P (r ∷ rs) d a h =
     by (r .when)
     (λ o. inr (rw (o, eqb-true (numberOf (r .says)) (r .number) (c .0)) (h .0 o)))
     (λ o. rw o (said P rs d (c .1) (h .1)))
+
+-- what each row has, the first that applies has
+abbrev pub Each : (Row → Type 0) → List Row → Type 0
+Each Q [] = Unit {0}
+Each Q (r ∷ rs) = Q r × Each Q rs
+
+pub each : (Q : Row → Type 0) (rs : List Row) (d : Row) → Each Q rs → Q d → Q (firstRow rs d)
+each Q [] d h z = z
+each Q (r ∷ rs) d h z = go (r .when) (h .0) (each Q rs d (h .1) z)
+  where
+    go : (b : Bool) → Q r → Q (firstRow rs d) → Q (cond b r (firstRow rs d))
+    go true a c = a
+    go false a c = c
