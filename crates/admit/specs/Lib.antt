@@ -1,4 +1,4 @@
-pub mod Lent
+pub mod Firsts
 pub mod Facts
 pub mod Scan
 pub mod Every

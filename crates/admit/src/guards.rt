@@ -3,7 +3,7 @@
 ghost use mathlib.Core.Path.{_≡_};
 ghost use Rattle.types.specs.Limits.{stripes, partitions};
 ghost use Rattle.rules.specs.Lists.{allZero};
-ghost use Rattle.admit.specs.Lent.{array};
+ghost use Rattle.view.specs.Lent.{array};
 use types::RowId;
 use types::Store;
 

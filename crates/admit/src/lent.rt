@@ -3,15 +3,8 @@
 ghost use mathlib.Core.Path.{_≡_};
 ghost use mathlib.Core.Bool.{false};
 ghost use lib.ListN.{getD};
-ghost use Rattle.admit.specs.Lent.{atPlaces, flagsAtPlaces};
+ghost use Rattle.view.specs.Lent.{atPlaces, flagsAtPlaces};
 use types::SlotPtr;
-
-// The place of a slot in the arrays.
-pub fn place(p: u32) -> usize
-    ensures { λ r. ⌜ r ≡ p ⌝ }
-{
-    p as usize
-}
 
 // A txid of a slot.
 pub fn txid_at(a: &[u64; SlotPtr::PLACES], p: u32) -> u64

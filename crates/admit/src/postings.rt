@@ -7,7 +7,7 @@ ghost use lib.ListN.{length, getD, take, drop};
 ghost use lib.Dec.{eqb};
 ghost use Rattle.types.specs.Limits.{postingLimit};
 ghost use Rattle.rules.specs.Lists.{all, allZero, those};
-ghost use Rattle.admit.specs.Lent.{array, atRows, flagsAtPlaces};
+ghost use Rattle.view.specs.Lent.{array, atRows, flagsAtPlaces};
 ghost use Rattle.admit.specs.Climb.{climb};
 ghost use Rattle.admit.specs.Posted.{keyed, postingsForm, toldAt};
 use super::lent::flag_at;

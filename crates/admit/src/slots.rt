@@ -4,7 +4,7 @@ ghost use mathlib.Core.Path.{_≡_};
 ghost use mathlib.Core.Bool.{Bool, not};
 ghost use lib.Dec.{ltb};
 ghost use Rattle.rules.specs.Lists.{all, eachOr, isZero, nonzero};
-ghost use Rattle.admit.specs.Lent.{atPlaces, flagsAtPlaces};
+ghost use Rattle.view.specs.Lent.{atPlaces, flagsAtPlaces};
 use types::SlotPtr;
 
 // A txid is 0 where the slot is free.

@@ -6,7 +6,7 @@ ghost use mathlib.Core.List.{[]};
 ghost use Rattle.rules.specs.Store.{slotsInForm};
 ghost use Rattle.rules.specs.Chains.{walk};
 ghost use Rattle.rules.specs.Admitted.{repairable, resting};
-ghost use Rattle.admit.specs.Lent.{atRows, atPlaces};
+ghost use Rattle.view.specs.Lent.{atRows, atPlaces};
 ghost use Rattle.admit.specs.Lending.{lentStore};
 use super::active::active_in_form;
 use super::chains::chains_ok;

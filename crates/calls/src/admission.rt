@@ -6,12 +6,12 @@ ghost use Rattle.rules.specs.Calls.{admits};
 ghost use Rattle.calls.specs.Refused.{admissionTries};
 use admit::store::resting_of;
 use admit::tx::fit_of;
-use look::active::is_active;
 use types::Fate;
 use types::Refusal;
 use types::SlotPtr;
 use types::Store;
 use types::Tx;
+use view::txids::is_active;
 
 // Numbers 1, 2 and 3.
 fn admission(rests: bool, fits: bool, active: bool) -> Refusal

@@ -6,7 +6,7 @@ ghost use lib.ListN.{length};
 ghost use Rattle.types.specs.Limits.{clockEnd, activeLimit};
 ghost use Rattle.rules.specs.Calls.{begin};
 ghost use Rattle.journal.specs.Adds.{Adds};
-ghost use Rattle.look.specs.Lent.{atActive};
+ghost use Rattle.view.specs.Lent.{atActive};
 ghost use Rattle.calls.specs.Begin.{beginTries, beginPuts, begunOf};
 use super::refusal::is_done;
 use admit::store::resting;

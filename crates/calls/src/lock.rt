@@ -8,7 +8,7 @@ ghost use Rattle.rules.specs.Puts.{putLock};
 ghost use Rattle.rules.specs.Calls.{rowLock};
 ghost use Rattle.journal.specs.Journal.{placeBase};
 ghost use Rattle.journal.specs.Adds.{Adds};
-ghost use Rattle.look.specs.Lent.{atRows};
+ghost use Rattle.view.specs.Lent.{atRows};
 ghost use Rattle.calls.specs.Refused.{unless};
 ghost use Rattle.calls.specs.Lock.{lockTries};
 use super::admission::admits;
@@ -16,7 +16,6 @@ use super::refusal::healthy;
 use super::refusal::is_done;
 use journal::Journal;
 use journal::Kind;
-use look::slots::locked_by_another;
 use types::Fate;
 use types::Refusal;
 use types::Reply;
@@ -25,6 +24,7 @@ use types::SlotPtr;
 use types::Store;
 use types::Tx;
 use types::Txid;
+use view::locks::locked_by_another;
 
 // The head of a row, null for a row too high.
 fn head_of(heads: &[u32; RowId::ROWS], r: RowId) -> SlotPtr

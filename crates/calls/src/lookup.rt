@@ -5,7 +5,7 @@ ghost use mathlib.Core.Bool.{false};
 ghost use mathlib.Core.List.{List};
 ghost use Rattle.rules.specs.Types.{ReadRecord};
 ghost use Rattle.rules.specs.Calls.{lookup};
-ghost use Rattle.look.specs.Lent.{atStripes};
+ghost use Rattle.view.specs.Lent.{atStripes};
 ghost use Rattle.look.specs.Reads.{laid};
 ghost use Rattle.calls.specs.Refused.{unless};
 ghost use Rattle.calls.specs.Lookup.{lookupTries, looked};

@@ -5,13 +5,13 @@ ghost use Rattle.commit.specs.Tries.{numberTried, saidBy, numberFor};
 use admit::schedule::schedule_fit;
 use admit::store::resting_of;
 use admit::tx::fit_of;
-use look::active::is_active;
 use types::Fate;
 use types::Refusal;
 use types::Schedule;
 use types::SlotPtr;
 use types::Store;
 use types::Tx;
+use view::txids::is_active;
 
 // Numbers 1, 2 and 3; 0 if nothing is refused.
 fn number_tried(rests: bool, fits: bool, planned: bool, active: bool) -> u8

@@ -14,7 +14,7 @@ use Rattle.rules.specs.Lists.{pad, into}
 use Rattle.rules.specs.Store.{posting}
 use Rattle.rules.specs.Admitted.{headPostings}
 use Rattle.journal.specs.Packed.{Packed}
-use Rattle.admit.specs.Lent.{array, atRows, array-length, array-at, array-end}
+use Rattle.view.specs.Lent.{array, atRows, array-length, array-at, array-end}
 
 -- a list laid out in an array that has room for it is read back
 take-pad : (n : ℕ) (l : List ℕ) → length l ≤ n → take (length l) (pad n 0 l) ≡ l

@@ -1,7 +1,7 @@
 -- `recover` meets its contract.
 use mathlib.Core.Path.{_∙_}
 use Rattle.admit.specs.Lending.{lent-repairable}
-use Rattle.admit.proofs.Lengths.{sized}
+use Rattle.view.proofs.Lengths.{sized}
 use Rattle.mend.specs.Whole.{mended, refused}
 use borrow.Author.Needs.{needs}
 use Rattle.mend.proofs.recover.Statement.{statement}

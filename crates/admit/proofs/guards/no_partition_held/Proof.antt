@@ -4,7 +4,7 @@ use Prim.Native.Nat.{_+_, _-_, _<_, _≤_}
 use native.Mathlib.Omega.{arith}
 use Rattle.types.specs.Limits.{partitions}
 use Rattle.rules.specs.Lists.{allZero, isZero}
-use Rattle.admit.specs.Lent.{array}
+use Rattle.view.specs.Lent.{array}
 use Rattle.admit.specs.Scan.{allLeft, all-pass, all-fail, all-end}
 use Rattle.admit.specs.Facts.{zero-yes, zero-no}
 use borrow.Author.Needs.{needs}

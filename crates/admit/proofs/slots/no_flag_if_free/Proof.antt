@@ -8,7 +8,7 @@ use borrow.Author.Tests.{not-true}
 use Rattle.types.specs.Limits.{places}
 use mathlib.Core.Bool.{Bool, true, false, not}
 use Rattle.rules.specs.Lists.{eachOr, nonzero}
-use Rattle.admit.specs.Lent.{atPlaces, flagsAtPlaces}
+use Rattle.view.specs.Lent.{atPlaces, flagsAtPlaces}
 use Rattle.admit.specs.Scan.{eachLeft, each-first, each-second, each-fail, each-end}
 use Rattle.admit.specs.Facts.{nonzero-yes, nonzero-no}
 use Rattle.admit.proofs.slots.no_flag_if_free.Statement.{statement}

@@ -8,7 +8,7 @@ use borrow.Author.Tests.{not-true, not-false}
 use Rattle.types.specs.Limits.{places}
 use mathlib.Core.Bool.{false}
 use Rattle.rules.specs.Lists.{eachOr, isZero}
-use Rattle.admit.specs.Lent.{atPlaces, flagsAtPlaces}
+use Rattle.view.specs.Lent.{atPlaces, flagsAtPlaces}
 use Rattle.admit.specs.Scan.{eachLeft, each-first, each-second, each-fail, each-end}
 use Rattle.admit.proofs.slots.no_key_if_absent.Statement.{statement}
 use Rattle.admit.proofs.slots.no_key_if_absent.Tie as tie

@@ -4,7 +4,7 @@ use Rattle.rules.specs.Lists.{memb}
 use Rattle.rules.specs.Store.{activeTxids}
 use Rattle.admit.specs.Lending.{lent-resting}
 use Rattle.admit.specs.Fits.{fit-by}
-use Rattle.admit.proofs.Lengths.{sized}
+use Rattle.view.proofs.Lengths.{sized}
 use Rattle.calls.specs.Refused.{admission-is}
 use Rattle.calls.specs.Whole.{active-whole}
 use borrow.Author.Needs.{needs}

@@ -2,7 +2,7 @@
 use mathlib.Core.Path.{sym}
 use native.Mathlib.Omega.{arith}
 use Rattle.types.specs.Limits.{rows}
-use Rattle.look.specs.Lent.{array-at, array-past}
+use Rattle.view.specs.Lent.{array-at, array-past}
 use borrow.Author.Needs.{needs}
 use Rattle.calls.proofs.lock.head_of.Statement.{statement}
 use Rattle.calls.proofs.lock.head_of.Tie as tie

@@ -5,8 +5,8 @@ use Rattle.rules.specs.Store.{activeTxids}
 use Rattle.types.specs.Limits.{activeLimit}
 use Rattle.admit.specs.Lending.{lent-resting}
 use Rattle.admit.specs.Fits.{fit-by}
-use Rattle.admit.proofs.Lengths.{sized}
-use Rattle.look.specs.Lent.{array-same}
+use Rattle.view.proofs.Lengths.{sized}
+use Rattle.view.specs.Lent.{array-same}
 use Rattle.commit.specs.Tries.{number-is}
 use borrow.Author.Needs.{needs}
 use Rattle.commit.proofs.admission.number_for.Statement.{statement}
