@@ -1,6 +1,6 @@
 -- Scans of lent arrays: what is left to test from an index on, against the whole.
 use mathlib.Core.Path.{_≡_, refl}
-use mathlib.Core.Bool.{Bool, true, false, or-true}
+use mathlib.Core.Bool.{Bool, true, false, _&&_, _||_, or-true}
 use mathlib.Core.List.{List}
 use Prim.Native.Nat.{ℕ, suc, _+_, _<_, _≤_}
 use lib.ListN.{length, getD, take, drop}
@@ -71,6 +71,11 @@ unfoldable pub eachLeft {ℓ κ} : {A : Type ℓ} {B : Type κ} → (A → Bool)
 eachLeft f g n y z l m i = eachOr f g (drop i (array n y l)) (drop i (array n z m))
 
 module _ {ℓ κ} {A : Type ℓ} {B : Type κ} (f : A → Bool) (g : B → Bool) (n : ℕ) (y : A) (z : B) (l : List A) (m : List B) (i : ℕ) (w : Bool) where
+  -- the two at i, and the rest
+  pub each-here : i < n → eachLeft f g n y z l m i ≡ ((f (getD l i y) || g (getD m i z)) && eachLeft f g n y z l m (i + 1))
+  unfolding eachLeft
+  each-here h = rw (array-cons n y l i h, array-cons n z m i h)
+
   -- f holds at i, or g does: the rest decides
   pub each-first : eachLeft f g n y z l m i ≡ w → i < n → f (getD l i y) ≡ true → eachLeft f g n y z l m (i + 1) ≡ w
   unfolding eachLeft

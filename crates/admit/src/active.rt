@@ -7,6 +7,7 @@ ghost use Rattle.rules.specs.Lists.{allZero};
 ghost use Rattle.rules.specs.Store.{activeInForm};
 ghost use Rattle.rules.specs.Admitted.{finished};
 ghost use Rattle.view.specs.Lent.{array};
+use super::lent::zeros_from;
 use types::Txid;
 use view::txids;
 
@@ -14,14 +15,7 @@ use view::txids;
 pub fn zero_from(txids: &[u64; Txid::ACTIVE], n: usize) -> bool
     ensures { λ r. ⌜ r ≡ allZero (drop n (array activeLimit 0 (now (txids .entry)))) ⌝ }
 {
-    let mut i = n;
-    while i < Txid::ACTIVE {
-        if txids[i] != 0 {
-            return false;
-        }
-        i += 1;
-    }
-    true
+    zeros_from(txids, n)
 }
 
 // Rising, below the clock, zero after them.

@@ -6,7 +6,7 @@ ghost use Rattle.journal.specs.Adds.{Adds};
 ghost use Rattle.view.specs.Lent.{atRows, atPlaces};
 ghost use Rattle.calls.specs.Abort.{ownFrees, abortPutsOf};
 use super::admission::admits;
-use super::refusal::is_done;
+use admit::admission::is_done;
 use admit::walk::walk_all;
 use journal::Journal;
 use journal::Kind;

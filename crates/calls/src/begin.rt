@@ -8,7 +8,7 @@ ghost use Rattle.rules.specs.Calls.{begin};
 ghost use Rattle.journal.specs.Adds.{Adds};
 ghost use Rattle.view.specs.Lent.{atActive};
 ghost use Rattle.calls.specs.Begin.{beginTries, beginPuts, begunOf};
-use super::refusal::is_done;
+use admit::admission::is_done;
 use admit::store::resting;
 use journal::Journal;
 use journal::Kind;

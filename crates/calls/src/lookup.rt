@@ -11,7 +11,7 @@ ghost use Rattle.calls.specs.Refused.{unless};
 ghost use Rattle.calls.specs.Lookup.{lookupTries, looked};
 use super::admission::admits;
 use super::refusal::healthy;
-use super::refusal::is_done;
+use admit::admission::is_done;
 use look::candidates::candidates;
 use look::changed::with_index_reads;
 use look::changed::with_reads;

@@ -10,8 +10,8 @@ use Rattle.types.proofs.Refusal as T
 use Rattle.rules.specs.Types.{Refusal, Done, NotResting, Unfit, NotActive, StepFailed, PrepareFailed, PreparePanicked, Conflict, BoundDurably, FoundPoisoned, InsertFailed, CallbackFailed, CallbackPanicked, RemoveFailed, PublishFailed, RecycleFailed, FinishFailed, StampFailed, CutOff, CleanupFailed, NotRepairable, ActiveFull, ClockAtEnd, RowTooHigh, ReadsFull, WritesFull, SlotsFull, LockedByAnother, NoHead}
 use Rattle.rules.specs.Numbers.{numberOf, isDone}
 use borrow.Author.Needs.{needs}
-use Rattle.calls.proofs.refusal.is_done.Statement.{statement}
-use Rattle.calls.proofs.refusal.is_done.Tie as tie
+use Rattle.admit.proofs.admission.is_done.Statement.{statement}
+use Rattle.admit.proofs.admission.is_done.Tie as tie
 
 -- a refusal's tag is its number
 tag-number : (w : Refusal) → tagOf T.the-type w ≡ numberOf w
