@@ -1,15 +1,14 @@
 -- The form of the active list, tested in one pass.
 use mathlib.Core.Path.{_≡_, refl}
-use mathlib.Core.Bool.{Bool, true, false, not, cond, _&&_, and-true, and-false}
+use mathlib.Core.Bool.{Bool, true, false, cond, _&&_, and-true, and-false}
 use mathlib.Core.List.{List, [], _∷_}
 use Prim.Native.Nat.{ℕ, suc, _+_, _<_, _≤_}
 use borrow.Author.Tests.{eq-eqb, ne-eqb, lt-ltb, le-ltb}
 use lib.ListN.{length, getD, drop}
 use lib.Dec.{eqb, ltb}
-use Rattle.rules.specs.Lists.{all, every, allZero, rising, beforeZero, memb}
+use Rattle.rules.specs.Lists.{all, every, allZero, rising, beforeZero}
 use Rattle.rules.specs.Store.{activeInForm}
-use Rattle.rules.specs.Admitted.{finished}
-use Rattle.admit.specs.Lent.{array, array-cons, array-end}
+use Rattle.view.specs.Lent.{array, array-cons, array-end}
 
 -- rising past `before` and below the clock up to the first 0, and zero after it
 abbrev pub activeFrom : ℕ → ℕ → List ℕ → Bool
@@ -66,17 +65,3 @@ module _ (clock before n : ℕ) (l : List ℕ) (i : ℕ) (w : Bool) where
   pub active-end : activeLeft clock before n l i ≡ w → n ≤ i → true ≡ w
   unfolding activeLeft
   active-end e h = rw (array-end n 0 l i h) at e
-
--- the ways to be finished or not
-module _ (act : List ℕ) (doomed t : ℕ) where
-  pub finished-none : t ≡ 0 → true ≡ finished act doomed t
-  unfolding finished
-  finished-none e = rw (eq-eqb t 0 e)
-
-  pub finished-doomed : (t ≡ 0 → ⊥) → t ≡ doomed → false ≡ finished act doomed t
-  unfolding finished
-  finished-doomed n e = rw (ne-eqb t 0 n, eq-eqb t doomed e, and-false (not (memb t act)))
-
-  pub finished-else : (r : Bool) → (t ≡ 0 → ⊥) → (t ≡ doomed → ⊥) → r ≡ memb t act → not r ≡ finished act doomed t
-  unfolding finished
-  finished-else r n e m = rw (ne-eqb t 0 n, ne-eqb t doomed e, m, and-true (not (memb t act)))

@@ -5,7 +5,8 @@ use mathlib.Core.List.{List, [], _∷_}
 use Prim.Native.Nat.{ℕ, _+_, _<_, _≤_}
 use lib.ListN.{getD, take, drop}
 use Rattle.rules.specs.Lists.{all}
-use Rattle.admit.specs.Lent.{array, first-cons, first-end}
+use Rattle.view.specs.Lent.{array}
+use Rattle.admit.specs.Firsts.{first-cons, first-end}
 
 module _ {ℓ} {A : Type ℓ} where
   abbrev pub apart : (A → A → Bool) → List A → Bool

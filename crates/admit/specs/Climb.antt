@@ -7,7 +7,8 @@ use borrow.Author.Tests.{le-leb, lt-leb}
 use lib.ListN.{getD, take, drop}
 use lib.Dec.{leb}
 use Rattle.rules.specs.Lists.{all, rising, nonFalling}
-use Rattle.admit.specs.Lent.{array, first-cons, first-end}
+use Rattle.view.specs.Lent.{array}
+use Rattle.admit.specs.Firsts.{first-cons, first-end}
 
 -- each at least what the one before it asks, from lo on
 abbrev pub climb : (ℕ → ℕ) → (ℕ → Bool) → ℕ → List ℕ → Bool

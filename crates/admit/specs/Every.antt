@@ -1,9 +1,10 @@
 -- A row of tests, all of which must hold.
-use mathlib.Core.Path.{_≡_, refl, ap}
-use mathlib.Core.Bool.{Bool, true, false, _&&_, and-assoc}
+use mathlib.Core.Path.{_≡_, refl, sym, ap}
+use mathlib.Core.Bool.{Bool, true, false, _&&_, and-assoc, and-false}
 use mathlib.Core.List.{List, [], _∷_, _++_}
 use Prim.Native.Nat.{ℕ, zero, suc}
-use lib.ListN.{getD}
+use native.Mathlib.Nat.{suc-inj, suc-ne-zero}
+use lib.ListN.{length, getD}
 use Rattle.rules.specs.Lists.{every}
 use Rattle.rules.specs.Bools.{clash}
 use Rattle.laws.specs.Lists.{Each}
@@ -43,3 +44,21 @@ pub every-join : (p : List Bool) (a b : Bool) (l : List Bool) → every (p ++ ((
 unfolding every
 every-join [] a b l = and-assoc a b (every l)
 every-join (c ∷ p) a b l = ap (λ r. c && r) (every-join p a b l)
+
+-- two rows side by side
+abbrev pub both : List Bool → List Bool → List Bool
+both (a ∷ p) (b ∷ q) = (a && b) ∷ both p q
+both [] q = []
+both (a ∷ p) [] = []
+
+pub both-every : (p q : List Bool) → length p ≡ length q → every (both p q) ≡ (every p && every q)
+unfolding every
+both-every [] [] e = refl
+both-every [] (b ∷ q) e = absurd (suc-ne-zero (length q) (sym e))
+both-every (a ∷ p) [] e = absurd (suc-ne-zero (length p) e)
+both-every (a ∷ p) (b ∷ q) e = rw (both-every p q (suc-inj e)) (regroup a b)
+  where
+    regroup : (a b : Bool) → ((a && b) && (every p && every q)) ≡ ((a && every p) && (b && every q))
+    regroup true true = refl
+    regroup true false = sym (and-false (every p))
+    regroup false b = refl

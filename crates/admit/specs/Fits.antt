@@ -16,7 +16,7 @@ use Rattle.rules.specs.Fit.{readFit, writeFit, writesApart, stripesApart, count
 use Rattle.rules.specs.Faults.{allowed, stepsApart, faultsOf, scheduleFit}
 use Rattle.laws.specs.Lists.{Each}
 use Rattle.laws.specs.Sized.{Sized}
-use Rattle.admit.specs.Lent.{array, array-same, atRows, atPlaces}
+use Rattle.view.specs.Lent.{array, array-same, atRows, atPlaces}
 use Rattle.admit.specs.Every.{Holds, every-fails, every-each, every-last, every-join}
 use Rattle.admit.specs.Row.{marks-array}
 use Rattle.admit.specs.Climb.{climb, non-falling-climb}

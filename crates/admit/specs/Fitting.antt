@@ -14,7 +14,8 @@ use Rattle.rules.specs.Lists.{all, every, nonFalling}
 use Rattle.rules.specs.Store.{used}
 use Rattle.rules.specs.Chains.{on}
 use Rattle.rules.specs.Fit.{readFit, writeFit, writesApart, stripesApart}
-use Rattle.admit.specs.Lent.{array, array-at, first-cons, first-end, atPlaces}
+use Rattle.view.specs.Lent.{array, array-at, atPlaces}
+use Rattle.admit.specs.Firsts.{first-cons, first-end}
 use Rattle.admit.specs.Every.{every-fails, each-every, every-last}
 use Rattle.admit.specs.Facts.{nonzero-yes, nonzero-no}
 use Rattle.admit.specs.Apart.{apart}

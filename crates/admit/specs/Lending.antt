@@ -8,7 +8,7 @@ use Rattle.rules.specs.Types.{Store}
 use Rattle.rules.specs.Store.{slotsInForm, postingsOf, postingsInForm}
 use Rattle.rules.specs.Admitted.{repairable, resting}
 use Rattle.laws.specs.Sized.{Sized}
-use Rattle.admit.specs.Lent.{array, array-same, atRows, atPlaces, flagsAtPlaces}
+use Rattle.view.specs.Lent.{array, array-same, atRows, atPlaces, flagsAtPlaces}
 
 -- stamps and durably bound are no part of any admission test
 abbrev pub lentStore : List ℕ → List ℕ → List ℕ → List ℕ → List ℕ → List Bool → List Bool → List ℕ → List ℕ → ℕ → List ℕ → List ℕ → List ℕ → ℕ → Bool → ℕ → Store

@@ -1,4 +1,4 @@
-pub mod Lent
+pub mod Firsts
 pub mod Facts
 pub mod Scan
 pub mod Every
@@ -10,8 +10,10 @@ pub mod Climb
 pub mod Posted
 pub mod Told
 pub mod Lending
+pub mod Form
 pub mod Row
 pub mod Apart
 pub mod Allowed
 pub mod Fitting
 pub mod Fits
+pub mod Admission

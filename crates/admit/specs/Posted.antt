@@ -12,7 +12,7 @@ use lib.Dec.{eqb, ltb, leb}
 use Rattle.types.specs.Limits.{rows, postingLimit, keyEnd}
 use Rattle.rules.specs.Lists.{all, every, allZero, rising, those}
 use Rattle.rules.specs.Store.{posting, keyOf, rowOf}
-use Rattle.admit.specs.Lent.{array, array-at, atRows, atPlaces, flagsAtPlaces}
+use Rattle.view.specs.Lent.{array, array-at, atRows, atPlaces, flagsAtPlaces}
 use Rattle.admit.specs.Every.{every-each}
 use Rattle.admit.specs.Climb.{climb, rising-climb}
 

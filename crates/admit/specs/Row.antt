@@ -14,7 +14,7 @@ use Rattle.rules.specs.Store.{used, usedSlots, slotsInForm, postingsOf, posting
 use Rattle.rules.specs.Chains.{walk}
 use Rattle.rules.specs.Admitted.{offOk, restsAt, repairable, resting, headPostings}
 use Rattle.laws.specs.Lists.{Each}
-use Rattle.admit.specs.Lent.{array, array-length, array-same, atRows, atPlaces, flagsAtPlaces}
+use Rattle.view.specs.Lent.{array, array-length, array-same, atRows, atPlaces, flagsAtPlaces}
 use Rattle.admit.specs.Every.{Holds, every-fails, each-every, every-last}
 use Rattle.admit.specs.Lending.{lentStore}
 use Rattle.admit.specs.Walked.{walk-long}

@@ -1,12 +1,12 @@
 -- Scans of lent arrays: what is left to test from an index on, against the whole.
-use mathlib.Core.Path.{_≡_, refl, sym}
-use mathlib.Core.Bool.{Bool, true, false, or-true}
+use mathlib.Core.Path.{_≡_, refl}
+use mathlib.Core.Bool.{Bool, true, false, _&&_, _||_, or-true}
 use mathlib.Core.List.{List}
 use Prim.Native.Nat.{ℕ, suc, _+_, _<_, _≤_}
 use lib.ListN.{length, getD, take, drop}
-use borrow.Author.Tests.{eq-eqb, ne-eqb}
-use Rattle.rules.specs.Lists.{all, those, eachOr, memb}
-use Rattle.admit.specs.Lent.{array, array-cons, array-end, first-cons, first-end, first-past}
+use Rattle.rules.specs.Lists.{all, those, eachOr}
+use Rattle.view.specs.Lent.{array, array-cons, array-end}
+use Rattle.admit.specs.Firsts.{first-cons, first-end, first-past}
 
 -- every element of the array from i on passes; shut, so that a law finds its parts
 unfoldable pub allLeft {ℓ} : {A : Type ℓ} → (A → Bool) → ℕ → A → List A → ℕ → Bool
@@ -71,6 +71,11 @@ unfoldable pub eachLeft {ℓ κ} : {A : Type ℓ} {B : Type κ} → (A → Bool)
 eachLeft f g n y z l m i = eachOr f g (drop i (array n y l)) (drop i (array n z m))
 
 module _ {ℓ κ} {A : Type ℓ} {B : Type κ} (f : A → Bool) (g : B → Bool) (n : ℕ) (y : A) (z : B) (l : List A) (m : List B) (i : ℕ) (w : Bool) where
+  -- the two at i, and the rest
+  pub each-here : i < n → eachLeft f g n y z l m i ≡ ((f (getD l i y) || g (getD m i z)) && eachLeft f g n y z l m (i + 1))
+  unfolding eachLeft
+  each-here h = rw (array-cons n y l i h, array-cons n z m i h)
+
   -- f holds at i, or g does: the rest decides
   pub each-first : eachLeft f g n y z l m i ≡ w → i < n → f (getD l i y) ≡ true → eachLeft f g n y z l m (i + 1) ≡ w
   unfolding eachLeft
@@ -89,21 +94,3 @@ module _ {ℓ κ} {A : Type ℓ} {B : Type κ} (f : A → Bool) (g : B → Bool)
   pub each-end : eachLeft f g n y z l m i ≡ w → n ≤ i → true ≡ w
   unfolding eachLeft
   each-end e h = rw (array-end n z m i h) at e
-
--- t stands in the array from i on
-unfoldable pub membLeft : ℕ → ℕ → List ℕ → ℕ → Bool
-membLeft t n l i = memb t (drop i (array n 0 l))
-
-module _ (t n : ℕ) (l : List ℕ) (i : ℕ) (w : Bool) where
-  -- it stands at i, or not there, or none is left
-  pub memb-hit : membLeft t n l i ≡ w → i < n → getD l i 0 ≡ t → true ≡ w
-  unfolding membLeft
-  memb-hit e h q = rw (array-cons n 0 l i h, eq-eqb t (getD l i 0) (sym q)) at e
-
-  pub memb-pass : membLeft t n l i ≡ w → i < n → (getD l i 0 ≡ t → ⊥) → membLeft t n l (i + 1) ≡ w
-  unfolding membLeft
-  memb-pass e h q = rw (array-cons n 0 l i h, ne-eqb t (getD l i 0) (λ s. q (sym s))) at e
-
-  pub memb-end : membLeft t n l i ≡ w → n ≤ i → false ≡ w
-  unfolding membLeft
-  memb-end e h = rw (array-end n 0 l i h) at e

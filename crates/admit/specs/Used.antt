@@ -10,7 +10,7 @@ use lib.Dec.{eqb}
 use Rattle.types.specs.Limits.{slots, places}
 use Rattle.rules.specs.Lists.{all, nonzeroFrom}
 use Rattle.rules.specs.Admitted.{offOk, restsAt}
-use Rattle.admit.specs.Lent.{array, array-at, array-cons, array-end, atPlaces}
+use Rattle.view.specs.Lent.{array, array-at, array-cons, array-end, atPlaces}
 use Rattle.admit.specs.Versions.{fin}
 
 -- every used slot from i on passes

@@ -11,7 +11,7 @@ use lib.Dec.{eqb}
 use Rattle.types.specs.Limits.{activeLimit, slots, places}
 use Rattle.rules.specs.Chains.{chainFrom}
 use Rattle.rules.specs.Admitted.{finished, tailOk, chainOk}
-use Rattle.admit.specs.Lent.{array, atPlaces}
+use Rattle.view.specs.Lent.{array, atPlaces}
 
 -- a chain that ends, and one that goes on
 pub chain-null : (n : ℕ) (next : List ℕ) (p : ℕ) → p ≡ 0 → chainFrom n next p ≡ []

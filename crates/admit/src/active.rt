@@ -3,24 +3,19 @@
 ghost use mathlib.Core.Path.{_≡_};
 ghost use lib.ListN.{drop};
 ghost use Rattle.types.specs.Limits.{activeLimit};
-ghost use Rattle.rules.specs.Lists.{allZero, memb};
+ghost use Rattle.rules.specs.Lists.{allZero};
 ghost use Rattle.rules.specs.Store.{activeInForm};
 ghost use Rattle.rules.specs.Admitted.{finished};
-ghost use Rattle.admit.specs.Lent.{array};
+ghost use Rattle.view.specs.Lent.{array};
+use super::lent::zeros_from;
 use types::Txid;
+use view::txids;
 
 // Zero from place n on.
 pub fn zero_from(txids: &[u64; Txid::ACTIVE], n: usize) -> bool
     ensures { λ r. ⌜ r ≡ allZero (drop n (array activeLimit 0 (now (txids .entry)))) ⌝ }
 {
-    let mut i = n;
-    while i < Txid::ACTIVE {
-        if txids[i] != 0 {
-            return false;
-        }
-        i += 1;
-    }
-    true
+    zeros_from(txids, n)
 }
 
 // Rising, below the clock, zero after them.
@@ -43,28 +38,9 @@ pub fn active_in_form(active: &[u64; Txid::ACTIVE], clock: u64) -> bool
     true
 }
 
-fn listed(txids: &[u64; Txid::ACTIVE], t: u64) -> bool
-    ensures { λ r. ⌜ r ≡ memb t (array activeLimit 0 (now (txids .entry))) ⌝ }
-{
-    let mut i: usize = 0;
-    while i < Txid::ACTIVE {
-        if txids[i] == t {
-            return true;
-        }
-        i += 1;
-    }
-    false
-}
-
 // Neither active nor doomed, or no txid.
 pub fn is_finished(active: &[u64; Txid::ACTIVE], doomed: u64, t: u64) -> bool
     ensures { λ r. ⌜ r ≡ finished (array activeLimit 0 (now (active .entry))) doomed t ⌝ }
 {
-    if t == 0 {
-        return true;
-    }
-    if t == doomed {
-        return false;
-    }
-    !listed(active, t)
+    txids::is_finished(active, doomed, t)
 }

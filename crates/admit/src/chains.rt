@@ -5,16 +5,16 @@ ghost use Prim.Native.Nat.{_<_};
 ghost use Rattle.types.specs.Limits.{places};
 ghost use Rattle.rules.specs.Lists.{all};
 ghost use Rattle.rules.specs.Store.{usedSlots};
-ghost use Rattle.admit.specs.Lent.{atRows, atPlaces};
+ghost use Rattle.view.specs.Lent.{atRows, atPlaces};
 ghost use Rattle.admit.specs.Versions.{tailAt, chainAt};
 ghost use Rattle.admit.specs.Used.{offAt, settledBy, restAt};
 use super::active::is_finished;
-use super::lent::place;
 use super::lent::txid_at;
 use super::lent::word_at;
 use types::RowId;
 use types::SlotPtr;
 use types::Txid;
+use view::lent::place;
 
 // Finished versions of at most `left` slots from p on, the first with xmax `over`, each next one with the xmin before it.
 fn tail_ok<'a>(

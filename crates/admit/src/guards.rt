@@ -3,32 +3,19 @@
 ghost use mathlib.Core.Path.{_≡_};
 ghost use Rattle.types.specs.Limits.{stripes, partitions};
 ghost use Rattle.rules.specs.Lists.{allZero};
-ghost use Rattle.admit.specs.Lent.{array};
+ghost use Rattle.view.specs.Lent.{array};
+use super::lent::zeros_from;
 use types::RowId;
 use types::Store;
 
 pub fn no_stripe_held(guards: &[u64; Store::STRIPES]) -> bool
     ensures { λ r. ⌜ r ≡ allZero (array stripes 0 (now (guards .entry))) ⌝ }
 {
-    let mut i: usize = 0;
-    while i < Store::STRIPES {
-        if guards[i] != 0 {
-            return false;
-        }
-        i += 1;
-    }
-    true
+    zeros_from(guards, 0)
 }
 
 pub fn no_partition_held(guards: &[u64; RowId::PARTITIONS]) -> bool
     ensures { λ r. ⌜ r ≡ allZero (array partitions 0 (now (guards .entry))) ⌝ }
 {
-    let mut i: usize = 0;
-    while i < RowId::PARTITIONS {
-        if guards[i] != 0 {
-            return false;
-        }
-        i += 1;
-    }
-    true
+    zeros_from(guards, 0)
 }

@@ -1,17 +1,11 @@
-// Reads of lent arrays at a slot pointer: any pointer may be read, one past the slots as 0.
+// Reads of lent arrays at a slot pointer: any pointer may be read, one past the slots as 0. And zeros at the end of any.
 
 ghost use mathlib.Core.Path.{_≡_};
 ghost use mathlib.Core.Bool.{false};
-ghost use lib.ListN.{getD};
-ghost use Rattle.admit.specs.Lent.{atPlaces, flagsAtPlaces};
+ghost use lib.ListN.{getD, drop};
+ghost use Rattle.rules.specs.Lists.{allZero};
+ghost use Rattle.view.specs.Lent.{atPlaces, flagsAtPlaces};
 use types::SlotPtr;
-
-// The place of a slot in the arrays.
-pub fn place(p: u32) -> usize
-    ensures { λ r. ⌜ r ≡ p ⌝ }
-{
-    p as usize
-}
 
 // A txid of a slot.
 pub fn txid_at(a: &[u64; SlotPtr::PLACES], p: u32) -> u64
@@ -35,4 +29,18 @@ pub fn flag_at(a: &[bool; SlotPtr::PLACES], p: u32) -> bool
 {
     let i = p as usize;
     if i < SlotPtr::PLACES { a[i] } else { false }
+}
+
+// Zero from place n on.
+pub fn zeros_from(x: &[u64], n: usize) -> bool
+    ensures { λ r. ⌜ r ≡ allZero (drop n (now (x .entry))) ⌝ }
+{
+    let mut i = n;
+    while i < x.len() {
+        if x[i] != 0 {
+            return false;
+        }
+        i += 1;
+    }
+    true
 }

@@ -2,6 +2,7 @@
 // A test takes the arrays lent. Nothing is known of the length of a lent array's list, so a contract reads it through `array`.
 
 mod active;
+pub mod admission;
 mod chains;
 mod guards;
 mod lent;

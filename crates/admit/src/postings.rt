@@ -7,11 +7,12 @@ ghost use lib.ListN.{length, getD, take, drop};
 ghost use lib.Dec.{eqb};
 ghost use Rattle.types.specs.Limits.{postingLimit};
 ghost use Rattle.rules.specs.Lists.{all, allZero, those};
-ghost use Rattle.admit.specs.Lent.{array, atRows, flagsAtPlaces};
+ghost use Rattle.view.specs.Lent.{array, atRows, flagsAtPlaces};
 ghost use Rattle.admit.specs.Climb.{climb};
 ghost use Rattle.admit.specs.Posted.{keyed, postingsForm, toldAt};
 use super::lent::flag_at;
 use super::lent::word_at;
+use super::lent::zeros_from;
 use types::RowId;
 use types::SlotPtr;
 use types::Store;
@@ -46,14 +47,7 @@ fn postings_rise(postings: &[u64; Store::POSTINGS], n: usize) -> bool
 fn no_posting_from(postings: &[u64; Store::POSTINGS], n: usize) -> bool
     ensures { λ r. ⌜ r ≡ allZero (drop n (array postingLimit 0 (now (postings .entry)))) ⌝ }
 {
-    let mut i = n;
-    while i < Store::POSTINGS {
-        if postings[i] != 0 {
-            return false;
-        }
-        i += 1;
-    }
-    true
+    zeros_from(postings, n)
 }
 
 // "kept rising, packed, unique, at most 128"

@@ -8,7 +8,7 @@ ghost use Rattle.types.specs.Zero.{noFault};
 ghost use Rattle.rules.specs.Types.{Fault};
 ghost use Rattle.rules.specs.Lists.{all};
 ghost use Rattle.rules.specs.Faults.{bitOf, allowed, stepsApart, scheduleFit};
-ghost use Rattle.admit.specs.Lent.{array};
+ghost use Rattle.view.specs.Lent.{array};
 ghost use Rattle.admit.specs.Allowed.{stepsDiffer};
 use types::Fault;
 use types::Schedule;

@@ -1,73 +1,79 @@
 // The form of the slots: "A free slot is all zero; an absent key is stored as 0."
 
 ghost use mathlib.Core.Path.{_≡_};
-ghost use mathlib.Core.Bool.{Bool, not};
+ghost use mathlib.Core.Bool.{false};
+ghost use mathlib.Core.List.{[]};
 ghost use lib.Dec.{ltb};
-ghost use Rattle.rules.specs.Lists.{all, eachOr, isZero, nonzero};
-ghost use Rattle.admit.specs.Lent.{atPlaces, flagsAtPlaces};
+ghost use Rattle.rules.specs.Lists.{all, every, eachOr, isZero, nonzero};
+ghost use Rattle.rules.specs.Store.{slotsInForm};
+ghost use Rattle.view.specs.Lent.{atPlaces};
+ghost use Rattle.admit.specs.Lending.{lentStore};
+ghost use Rattle.admit.specs.Form.{slotForm};
+use super::lent::txid_at;
 use types::SlotPtr;
 
-// A txid is 0 where the slot is free.
-pub fn no_txid_if_free<'a>(
-    xmin: &'a [u64; SlotPtr::PLACES],
-    txid: &'a [u64; SlotPtr::PLACES],
+// One slot.
+fn slot_in_form(
+    xmin: u64,
+    xmax: u64,
+    next: u32,
+    key: u32,
+    has: bool,
+    locked: bool,
+    owner: u64,
 ) -> bool
-    ensures { λ r. ⌜ r ≡ eachOr nonzero isZero (atPlaces (now (xmin .entry))) (atPlaces (now (txid .entry))) ⌝ }
+    ensures { λ r. ⌜ r ≡ every (slotForm xmin xmax next key has locked owner) ⌝ }
 {
-    let mut i: usize = 0;
-    while i < SlotPtr::PLACES {
-        if xmin[i] == 0 && txid[i] != 0 {
-            return false;
+    if xmin != 0 {
+        if has {
+            return true;
         }
-        i += 1;
+        return key == 0;
     }
-    true
+    if xmax != 0 {
+        return false;
+    }
+    if next != 0 {
+        return false;
+    }
+    if has {
+        return false;
+    }
+    if locked {
+        return false;
+    }
+    if owner != 0 {
+        return false;
+    }
+    key == 0
 }
 
-// The next pointer is 0 where the slot is free.
-pub fn no_next_if_free<'a>(
+// Every slot, and place 0 is none.
+pub fn slots_in_form<'a>(
     xmin: &'a [u64; SlotPtr::PLACES],
+    xmax: &'a [u64; SlotPtr::PLACES],
     next: &'a [u32; SlotPtr::PLACES],
-) -> bool
-    ensures { λ r. ⌜ r ≡ eachOr nonzero isZero (atPlaces (now (xmin .entry))) (atPlaces (now (next .entry))) ⌝ }
-{
-    let mut i: usize = 0;
-    while i < SlotPtr::PLACES {
-        if xmin[i] == 0 && next[i] != 0 {
-            return false;
-        }
-        i += 1;
-    }
-    true
-}
-
-// A flag is down where the slot is free.
-pub fn no_flag_if_free<'a>(
-    xmin: &'a [u64; SlotPtr::PLACES],
-    flag: &'a [bool; SlotPtr::PLACES],
-) -> bool
-    ensures { λ r. ⌜ r ≡ eachOr nonzero not (atPlaces (now (xmin .entry))) (flagsAtPlaces (now (flag .entry))) ⌝ }
-{
-    let mut i: usize = 0;
-    while i < SlotPtr::PLACES {
-        if xmin[i] == 0 && flag[i] {
-            return false;
-        }
-        i += 1;
-    }
-    true
-}
-
-// The key is 0 where the slot has no value.
-pub fn no_key_if_absent<'a>(
-    has: &'a [bool; SlotPtr::PLACES],
     key: &'a [u32; SlotPtr::PLACES],
+    has: &'a [bool; SlotPtr::PLACES],
+    locked: &'a [bool; SlotPtr::PLACES],
+    owner: &'a [u64; SlotPtr::PLACES],
 ) -> bool
-    ensures { λ r. ⌜ r ≡ eachOr (λ b. b) isZero (flagsAtPlaces (now (has .entry))) (atPlaces (now (key .entry))) ⌝ }
+    ensures { λ r. ⌜ r ≡ slotsInForm (lentStore [] (now (xmin .entry)) (now (xmax .entry)) (now (next .entry)) (now (key .entry)) (now (has .entry)) (now (locked .entry)) (now (owner .entry)) [] 0 [] [] [] 0 false 0) ⌝ }
 {
+    if txid_at(xmin, 0) != 0 {
+        return false;
+    }
     let mut i: usize = 0;
     while i < SlotPtr::PLACES {
-        if !has[i] && key[i] != 0 {
+        if !slot_in_form(
+            xmin[i],
+            xmax[i],
+            next[i],
+            key[i],
+            has[i],
+            locked[i],
+            owner[i],
+        ) {
             return false;
         }
         i += 1;

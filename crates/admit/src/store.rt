@@ -3,10 +3,9 @@
 ghost use mathlib.Core.Path.{_≡_};
 ghost use mathlib.Core.Bool.{false};
 ghost use mathlib.Core.List.{[]};
-ghost use Rattle.rules.specs.Store.{slotsInForm};
 ghost use Rattle.rules.specs.Chains.{walk};
 ghost use Rattle.rules.specs.Admitted.{repairable, resting};
-ghost use Rattle.admit.specs.Lent.{atRows, atPlaces};
+ghost use Rattle.view.specs.Lent.{atRows, atPlaces};
 ghost use Rattle.admit.specs.Lending.{lentStore};
 use super::active::active_in_form;
 use super::chains::chains_ok;
@@ -14,13 +13,9 @@ use super::chains::chains_rest;
 use super::chains::off_slots_ok;
 use super::guards::no_partition_held;
 use super::guards::no_stripe_held;
-use super::lent::txid_at;
 use super::postings::postings_in_form;
 use super::postings::postings_told;
-use super::slots::no_flag_if_free;
-use super::slots::no_key_if_absent;
-use super::slots::no_next_if_free;
-use super::slots::no_txid_if_free;
+use super::slots::slots_in_form;
 use super::slots::used_if_marked;
 use super::slots::xmins_below;
 use super::walk::walk_all;
@@ -28,42 +23,6 @@ use types::RowId;
 use types::SlotPtr;
 use types::Store;
 use types::Txid;
-
-// "A free slot is all zero; an absent key is stored as 0."
-fn slots_in_form<'a>(
-    xmin: &'a [u64; SlotPtr::PLACES],
-    xmax: &'a [u64; SlotPtr::PLACES],
-    next: &'a [u32; SlotPtr::PLACES],
-    key: &'a [u32; SlotPtr::PLACES],
-    has: &'a [bool; SlotPtr::PLACES],
-    locked: &'a [bool; SlotPtr::PLACES],
-    owner: &'a [u64; SlotPtr::PLACES],
-) -> bool
-    ensures { λ r. ⌜ r ≡ slotsInForm (lentStore [] (now (xmin .entry)) (now (xmax .entry)) (now (next .entry)) (now (key .entry)) (now (has .entry)) (now (locked .entry)) (now (owner .entry)) [] 0 [] [] [] 0 false 0) ⌝ }
-{
-    if txid_at(xmin, 0) != 0 {
-        return false;
-    }
-    if !no_txid_if_free(xmin, xmax) {
-        return false;
-    }
-    if !no_next_if_free(xmin, next) {
-        return false;
-    }
-    if !no_flag_if_free(xmin, has) {
-        return false;
-    }
-    if !no_flag_if_free(xmin, locked) {
-        return false;
-    }
-    if !no_txid_if_free(xmin, owner) {
-        return false;
-    }
-    if !no_key_if_absent(has, key) {
-        return false;
-    }
-    true
-}
 
 // The store with these fields is repairable; `seen` comes back with the marks of the walk.
 pub fn repairable_of<'a>(
@@ -192,11 +151,11 @@ pub fn resting_of<'a>(
     postings_told(heads, key, has, postings, count)
 }
 
-// Admitted: every call but recovery asks it.
-pub fn resting(s: Store) -> bool
-    ensures { λ r. ⌜ r ≡ resting s ⌝ }
+// The same of a store by value.
+pub(crate) fn resting_marked(s: Store, seen: &mut [u8; SlotPtr::PLACES]) -> bool
+    ensures answer { λ r. ⌜ r ≡ resting s ⌝ }
+    ensures marks { λ r. ⌜ now (seen .exit) ≡ walk (atRows (s .heads)) (atPlaces (s .next)) .seen ⌝ }
 {
-    let mut seen = [0; SlotPtr::PLACES];
     resting_of(
         &s.heads,
         &s.xmin,
@@ -214,6 +173,14 @@ pub fn resting(s: Store) -> bool
         s.clock,
         s.poisoned,
         s.doomed,
-        &mut seen,
+        seen,
     )
+}
+
+// Admitted: every call but recovery asks it.
+pub fn resting(s: Store) -> bool
+    ensures { λ r. ⌜ r ≡ resting s ⌝ }
+{
+    let mut seen = [0; SlotPtr::PLACES];
+    resting_marked(s, &mut seen)
 }

@@ -8,12 +8,11 @@ ghost use Rattle.types.specs.Limits.{writeLimit, readLimit, indexReadLimit, sav
 ghost use Rattle.types.specs.Zero.{noWrite, noRead, noIndexRead};
 ghost use Rattle.rules.specs.Lists.{all, allZero};
 ghost use Rattle.rules.specs.Fit.{readFit, writesApart, stripesApart, countsFit, fit};
-ghost use Rattle.admit.specs.Lent.{array};
+ghost use Rattle.view.specs.Lent.{array};
 ghost use Rattle.admit.specs.Climb.{climb};
 ghost use Rattle.admit.specs.Fitting.{zeroWrite, zeroRead, zeroIndexRead, writeAt, writesDiffer, stripesDiffer};
 ghost use Rattle.admit.specs.Fits.{fitBy};
 use super::active::zero_from;
-use super::lent::place;
 use super::walk::walk_all;
 use types::IndexRead;
 use types::ReadRecord;
@@ -23,6 +22,7 @@ use types::Store;
 use types::Tx;
 use types::Txid;
 use types::Write;
+use view::lent::place;
 
 // The writes from place n on are zero.
 fn no_write_from(writes: [Write; Tx::WRITES], n: usize) -> bool

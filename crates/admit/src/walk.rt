@@ -2,10 +2,10 @@
 
 ghost use mathlib.Core.Path.{_≡_};
 ghost use Rattle.rules.specs.Chains.{Walk, walk};
-ghost use Rattle.admit.specs.Lent.{atRows, atPlaces};
-use super::lent::place;
+ghost use Rattle.view.specs.Lent.{atRows, atPlaces};
 use types::RowId;
 use types::SlotPtr;
+use view::lent::place;
 
 // Marks the slots that the chains reach, row by row; stops at the first slot reached twice.
 pub fn walk_all<'a>(

@@ -8,7 +8,7 @@ use native.Mathlib.Omega.{arith}
 use lib.ListN.{length, getD, drop, length-map, length-append}
 use lib.Dec.{eqb, lit≤}
 use borrow.Author.Tests.{ne-eqb}
-use Rattle.types.specs.Limits.{rows, places}
+use Rattle.types.specs.Limits.{places}
 use Rattle.types.specs.Zero.{onlyTxid}
 use Rattle.rules.specs.Lists.{those, nonzeroFrom}
 use Rattle.rules.specs.Bools.{by}
@@ -20,12 +20,12 @@ use Rattle.rules.specs.Puts.{Put, putFree, putDrop, ownSlots, abortPuts, applyA
 use Rattle.rules.specs.Calls.{admits, abort}
 use Rattle.journal.specs.Journal.{Pushed}
 use Rattle.journal.specs.Holds.{kept-wide}
-use Rattle.admit.specs.Lent.{array as judged}
-use Rattle.admit.specs.Walked.{walk-long}
-use Rattle.look.specs.Lent.{atRows, atPlaces, array-cons, array-end, array-same}
+use Rattle.admit.specs.Row.{marks-array}
+use Rattle.view.specs.Few.{those-few}
+use Rattle.view.specs.Lent.{atRows, atPlaces, array-cons, array-end}
 use Rattle.look.specs.Slots.{ownSlot, own-slots}
-use Rattle.calls.specs.Pushes.{Pushing, pushing-next}
-use Rattle.calls.specs.Whole.{one-array, heads-whole, next-whole, xmin-whole}
+use Rattle.journal.specs.Pushing.{Pushing, pushing-next}
+use Rattle.calls.specs.Whole.{heads-whole, next-whole, xmin-whole}
 use Rattle.laws.specs.Sized.{Sized}
 use Rattle.calls.specs.Refused.{choose, choose-done, choose-refused}
 
@@ -72,20 +72,13 @@ unfolding abortPuts abortPutsOf
 abort-puts S t = refl
 
 -- the frees by the marks of the walk, then the drop
-pub frees-then : (heads next xmin seen : List ℕ) (t : ℕ) → seen ≡ walk (judged rows 0 heads) (judged places 0 next) .seen
+pub frees-then : (heads next xmin seen : List ℕ) (t : ℕ) → seen ≡ walk (atRows heads) (atPlaces next) .seen
     → ownFrees xmin (atPlaces seen) t 0 ++ putDrop t ∷ [] ≡ abortPutsOf (atRows heads) (atPlaces next) (atPlaces xmin) t
 unfolding ownFrees abortPutsOf
 frees-then heads next xmin seen t e =
-    let w = walk (atRows heads) (atPlaces next) .seen in
-    let same : seen ≡ w = rw (one-array rows 0 heads, one-array places 0 next) at e in
-    let marks : atPlaces seen ≡ w = rw same (array-same places 0 w (walk-long (atRows heads) (atPlaces next))) in
-    rw (own-slots (atRows heads) (atPlaces next) (atPlaces xmin) t, marks)
+    rw (own-slots (atRows heads) (atPlaces next) (atPlaces xmin) t, marks-array (atRows heads) (atPlaces next) seen e)
 
 -- no more than there are places
-those-few : (f : ℕ → Bool) (l : List ℕ) → length (those f l) ≤ length l
-those-few f [] = omega arith
-those-few f (p ∷ l) = by (f p) (λ e. rw e (omega (arith, those-few f l))) (λ e. rw e (omega (arith, those-few f l)))
-
 nonzero-few : (p : ℕ) (l : List ℕ) → length (nonzeroFrom p l) ≤ length l
 nonzero-few p [] = omega arith
 nonzero-few p (x ∷ l) = by (eqb x 0) (λ e. rw e (omega (arith, nonzero-few (suc p) l))) (λ e. rw e (omega (arith, nonzero-few (suc p) l)))

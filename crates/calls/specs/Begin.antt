@@ -17,7 +17,7 @@ use Rattle.rules.specs.Numbers.{refuse, tries, isDone}
 use Rattle.rules.specs.Puts.{Put, putEnter, putClock, applyAll}
 use Rattle.rules.specs.Calls.{begin, begun}
 use Rattle.laws.specs.Sized.{Sized}
-use Rattle.look.specs.Lent.{atActive, array-same}
+use Rattle.view.specs.Lent.{atActive, array-same}
 use Rattle.calls.specs.Whole.{active-whole}
 use Rattle.calls.specs.Refused.{choose, choose-done, choose-refused}
 

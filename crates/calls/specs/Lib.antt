@@ -2,8 +2,6 @@
 pub mod Refused
 -- The fields of a store, lent.
 pub mod Whole
--- Blocks of puts, pushed in a loop.
-pub mod Pushes
 -- The calls, from what their code finds.
 pub mod Begin
 pub mod Lock

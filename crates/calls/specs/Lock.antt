@@ -18,8 +18,8 @@ use Rattle.laws.specs.Sized.{Sized}
 use Rattle.laws.specs.Chain.{IsChain}
 use Rattle.laws.specs.Chained.{walk-sound}
 use Rattle.laws.specs.Parts.{repairable-parts, resting-parts}
-use Rattle.look.specs.Lent.{atRows, atPlaces, flagsAtPlaces, atActive}
-use Rattle.look.specs.Slots.{lockedOf, locked-of}
+use Rattle.view.specs.Lent.{atRows, atPlaces, flagsAtPlaces, atActive}
+use Rattle.view.specs.Locks.{lockedOf, locked-of}
 use Rattle.calls.specs.Refused.{unless, poisonedTries, found-healthy, admitted-both, choose, choose-done, choose-refused}
 use Rattle.calls.specs.Whole.{heads-whole, locked-whole, owner-whole, active-whole}
 

@@ -15,8 +15,9 @@ use Rattle.rules.specs.Fit.{fit}
 use Rattle.rules.specs.Numbers.{Try, refuse, tries, isDone}
 use Rattle.rules.specs.Calls.{admits, admitsHealthy, recordReads, recordStamp, candidates, matching, asRow, lookup}
 use Rattle.laws.specs.Sized.{Sized}
-use Rattle.look.specs.Lent.{atRows, atPlaces, flagsAtPlaces, flagsAtRows, atPostings, atStripes, array-same}
-use Rattle.look.specs.Marks.{markedRows, noRows, mark-length}
+use Rattle.view.specs.Lent.{atRows, atPlaces, flagsAtPlaces, flagsAtRows, atPostings, atStripes, array-same}
+use Rattle.view.specs.Marks.{mark-length}
+use Rattle.look.specs.Marks.{markedRows, noRows}
 use Rattle.look.specs.Candidates.{candidateMarks, candidateRows, candidates-marked, fit-rows}
 use Rattle.look.specs.Reads.{laid}
 use Rattle.look.specs.Lookup.{recordReadsOf, record-reads, matchingOf, matching-of}

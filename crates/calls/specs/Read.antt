@@ -13,7 +13,7 @@ use Rattle.rules.specs.Transaction.{readsOf, withReads}
 use Rattle.rules.specs.Numbers.{Try, refuse, tries, isDone}
 use Rattle.rules.specs.Calls.{admits, admitsHealthy, recordRead, readPtr, read}
 use Rattle.laws.specs.Sized.{Sized}
-use Rattle.look.specs.Lent.{atRows, atPlaces, flagsAtPlaces}
+use Rattle.view.specs.Lent.{atRows, atPlaces, flagsAtPlaces}
 use Rattle.look.specs.Found.{readPtrOf, read-ptr}
 use Rattle.look.specs.Reads.{laid, recordReadOf, record-read}
 use Rattle.look.specs.declared.reads.ReadList.{ReadList}

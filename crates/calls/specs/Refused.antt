@@ -23,14 +23,6 @@ pub unless-more : (first more q : Refusal) → isDone first ≡ true → q ≡ m
 unfolding unless
 unless-more first more q e f = rw e f
 
--- numbers 1, 2 and 3
-unfoldable pub admissionTries : Bool → Bool → Bool → Refusal
-admissionTries rests fits active = tries (refuse (not rests) (NotResting Open) ∷ refuse (not fits) (Unfit Open) ∷ refuse (not active) (NotActive Closed) ∷ [])
-
-pub admission-is : (S : Store) (x : Tx) (rests fits active : Bool) → rests ≡ resting S → fits ≡ fit S x → active ≡ memb (x .txid .0) (activeTxids (S .active)) → admissionTries rests fits active ≡ admits S x []
-unfolding admissionTries admits
-admission-is S x rests fits active p q r = rw (p, q, r)
-
 -- number 9
 unfoldable pub poisonedTries : Bool → Refusal
 poisonedTries poisoned = tries (refuse poisoned (FoundPoisoned Open) ∷ [])

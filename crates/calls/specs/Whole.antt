@@ -1,18 +1,10 @@
 -- The fields of a store passed by value, lent: each array holds what its list does, since it has its type's length.
-use mathlib.Core.Path.{_≡_, refl}
+use mathlib.Core.Path.{_≡_}
 use mathlib.Core.Bool.{false}
-use mathlib.Core.List.{List}
-use Prim.Native.Nat.{ℕ}
 use Rattle.types.specs.Limits.{rows, places, postingLimit, stripes, activeLimit}
 use Rattle.rules.specs.Types.{Store}
 use Rattle.laws.specs.Sized.{Sized}
-use Rattle.admit.specs.Lent.{array as judged}
-use Rattle.look.specs.Lent.{array, array-same, atRows, atPlaces, flagsAtPlaces, atActive, atPostings, atStripes}
-
--- the crates `admit` and `look` read a lent array alike
-pub one-array {ℓ} : {A : Type ℓ} (n : ℕ) (z : A) (l : List A) → judged n z l ≡ array n z l
-unfolding judged array
-one-array n z l = refl
+use Rattle.view.specs.Lent.{array-same, atRows, atPlaces, flagsAtPlaces, atActive, atPostings, atStripes}
 
 module _ (S : Store) (z : Sized S) where
   pub heads-whole : atRows (S .heads) ≡ S .heads

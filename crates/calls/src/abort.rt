@@ -3,10 +3,10 @@
 ghost use mathlib.Core.Path.{_≡_};
 ghost use Rattle.rules.specs.Calls.{abort};
 ghost use Rattle.journal.specs.Adds.{Adds};
-ghost use Rattle.look.specs.Lent.{atRows, atPlaces};
+ghost use Rattle.view.specs.Lent.{atRows, atPlaces};
 ghost use Rattle.calls.specs.Abort.{ownFrees, abortPutsOf};
 use super::admission::admits;
-use super::refusal::is_done;
+use admit::admission::is_done;
 use admit::walk::walk_all;
 use journal::Journal;
 use journal::Kind;

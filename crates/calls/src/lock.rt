@@ -2,21 +2,18 @@
 
 ghost use mathlib.Core.Path.{_≡_};
 ghost use Prim.Native.Nat.{_<_};
-ghost use lib.ListN.{getD};
 ghost use mathlib.Core.List.{[], _∷_};
 ghost use Rattle.rules.specs.Puts.{putLock};
 ghost use Rattle.rules.specs.Calls.{rowLock};
 ghost use Rattle.journal.specs.Journal.{placeBase};
 ghost use Rattle.journal.specs.Adds.{Adds};
-ghost use Rattle.look.specs.Lent.{atRows};
 ghost use Rattle.calls.specs.Refused.{unless};
 ghost use Rattle.calls.specs.Lock.{lockTries};
 use super::admission::admits;
 use super::refusal::healthy;
-use super::refusal::is_done;
+use admit::admission::is_done;
 use journal::Journal;
 use journal::Kind;
-use look::slots::locked_by_another;
 use types::Fate;
 use types::Refusal;
 use types::Reply;
@@ -25,18 +22,8 @@ use types::SlotPtr;
 use types::Store;
 use types::Tx;
 use types::Txid;
-
-// The head of a row, null for a row too high.
-fn head_of(heads: &[u32; RowId::ROWS], r: RowId) -> SlotPtr
-    ensures { λ p. ⌜ p .0 ≡ getD (atRows (now (heads .entry))) (r .0) 0 ⌝ }
-{
-    let i = r.0;
-    if i < RowId::ROWS {
-        SlotPtr(heads[i])
-    } else {
-        SlotPtr::NULL
-    }
-}
+use view::lent::head_of;
+use view::locks::locked_by_another;
 
 // Numbers 23, 27 and 28, if nothing was refused before.
 fn lock_refusal(first: Refusal, r: RowId, head: SlotPtr, locked: bool) -> Refusal

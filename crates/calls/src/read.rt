@@ -6,7 +6,7 @@ ghost use Rattle.calls.specs.Refused.{unless};
 ghost use Rattle.calls.specs.Read.{readTries};
 use super::admission::admits;
 use super::refusal::healthy;
-use super::refusal::is_done;
+use admit::admission::is_done;
 use look::changed::with_reads;
 use look::found::read_ptr;
 use look::reads::with_read;

@@ -1,20 +1,10 @@
 // Refusals: the first test that holds says why.
 
 ghost use mathlib.Core.Path.{_≡_};
-ghost use Rattle.rules.specs.Numbers.{isDone};
 ghost use Rattle.calls.specs.Refused.{unless, poisonedTries};
+use admit::admission::is_done;
 use types::Fate;
 use types::Refusal;
-
-// Nothing was refused.
-pub fn is_done(why: Refusal) -> bool
-    ensures { λ r. ⌜ r ≡ isDone why ⌝ }
-{
-    match why {
-        Refusal::Done => true,
-        _ => false,
-    }
-}
 
 // Number 9, if nothing was refused before.
 pub fn healthy(first: Refusal, poisoned: bool) -> Refusal

@@ -10,7 +10,7 @@ ghost use Rattle.calls.specs.Refused.{unless};
 ghost use Rattle.calls.specs.Write.{writeTries};
 use super::admission::admits;
 use super::refusal::healthy;
-use super::refusal::is_done;
+use admit::admission::is_done;
 use journal::Journal;
 use journal::Kind;
 use look::changed::with_write;

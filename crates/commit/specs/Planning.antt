@@ -18,9 +18,8 @@ use Rattle.rules.specs.Commit.{count, strikes, runOf}
 use Rattle.rules.specs.Gates.{Gate, gates}
 use Rattle.journal.specs.Journal.{Holds}
 use Rattle.journal.specs.Adds.{Adds}
-use Rattle.admit.specs.Lent.{array as judged, array-same as judged-same}
 use Rattle.admit.specs.Walked.{walk-long}
-use Rattle.look.specs.Lent.{array, array-same, atPlaces}
+use Rattle.view.specs.Lent.{array, array-same, atRows, atPlaces}
 use Rattle.steps.specs.declared.finals.Finals.{Finals}
 use Rattle.steps.specs.Faults.{struckBy}
 use Rattle.steps.specs.Stops.{firstTrue, cleanGate, gateOf}
@@ -38,9 +37,9 @@ whole n z {m = m} e h = ap (array n z) e ∙ array-same n z m h
 
 -- the marks of the walk
 pub marks-are : (S : Store) → Sized S → {heads next seen : List ℕ} {ok : Bool} → heads ≡ S .heads → next ≡ S .next
-    → _≡_ {A = Walk} (record { ok = ok; seen = seen }) (walk (judged rows 0 heads) (judged places 0 next)) → atPlaces seen ≡ walk (S .heads) (S .next) .seen
+    → _≡_ {A = Walk} (record { ok = ok; seen = seen }) (walk (atRows heads) (atPlaces next)) → atPlaces seen ≡ walk (S .heads) (S .next) .seen
 marks-are S z {seen = seen} h n e =
-    let w : seen ≡ walk (S .heads) (S .next) .seen = ap (λ (v : Walk). v .seen) e ∙ rw (h, n, judged-same rows 0 (S .heads) (z .heads), judged-same places 0 (S .next) (z .next)) in
+    let w : seen ≡ walk (S .heads) (S .next) .seen = ap (λ (v : Walk). v .seen) e ∙ rw (h, n, array-same rows 0 (S .heads) (z .heads), array-same places 0 (S .next) (z .next)) in
     whole places 0 w (walk-long (S .heads) (S .next))
 
 -- the final writes laid out

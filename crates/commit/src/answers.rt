@@ -3,7 +3,6 @@
 ghost use mathlib.Core.Path.{_≡_};
 ghost use Rattle.rules.specs.Answer.{unchanged};
 ghost use Rattle.commit.specs.Run.{stopAt, cutAnswer, wholeAnswer};
-use journal::packed::within;
 use steps::answers::events_of;
 use steps::answers::no_events;
 use steps::answers::no_record;
@@ -21,6 +20,7 @@ use types::Refusal;
 use types::Schedule;
 use types::Store;
 use types::Tx;
+use view::lent::clipped;
 
 // All unchanged.
 pub fn unchanged(s: Store, x: Tx, why: Refusal) -> Answer
@@ -44,7 +44,7 @@ pub fn stop_at(cut: Cut, n: usize) -> usize
 {
     match cut {
         Cut::Uncut => n,
-        Cut::After(k) => within(k as usize, n),
+        Cut::After(k) => clipped(k as usize, n),
     }
 }
 

@@ -3,11 +3,13 @@
 ghost use mathlib.Core.Path.{_≡_};
 ghost use Rattle.rules.specs.Answer.{commit};
 
-mod admission;
 mod answers;
 mod planning;
 mod run;
 
+use admit::admission::admitted;
+use admit::admission::is_done;
+use admit::schedule::schedule_fit;
 use types::Answer;
 use types::Cut;
 use types::Schedule;
@@ -18,9 +20,8 @@ use types::Tx;
 pub fn commit(s: Store, x: Tx, logged: bool, plan: Schedule, cut: Cut) -> Answer
     ensures { λ r. ⌜ r ≡ commit s x logged plan cut ⌝ }
 {
-    let number = admission::number_for(s, x, plan);
-    if number != 0 {
-        let why = admission::said_by(number);
+    let why = admitted(s, x, schedule_fit(plan));
+    if !is_done(why) {
         return answers::unchanged(s, x, why);
     }
     run::run(s, x, logged, plan, cut)

@@ -10,6 +10,7 @@ mod fields;
 pub mod packed;
 
 use types::Store;
+use view::lent::clipped;
 
 pub struct Journal;
 
@@ -97,7 +98,7 @@ pub fn push(j: &mut [u64; Journal::WORDS], n: usize, kind: u64, at: usize, val: 
 pub fn apply(s: Store, j: &[u64; Journal::WORDS], n: usize) -> Store
     ensures { λ r. ⌜ r ≡ applyAll (puts (now (j .entry)) (min n putLimit)) s ⌝ }
 {
-    let end = packed::within(n, Journal::PUTS);
+    let end = clipped(n, Journal::PUTS);
     let mut t = s;
     let mut i: usize = 0;
     while i < end {

@@ -2,19 +2,13 @@
 
 ghost use mathlib.Core.Path.{_≡_};
 ghost use mathlib.Core.List.{[], _∷_, _++_};
-ghost use Prim.Native.Nat.{_≤_, min};
+ghost use Prim.Native.Nat.{_≤_};
 ghost use lib.ListN.{length, take};
 ghost use lib.Seq.{slice};
 ghost use Rattle.rules.specs.Lists.{into, without, pad, beforeZero};
 ghost use Rattle.journal.specs.Packed.{Packed};
 ghost use Rattle.journal.specs.Insert.{ahead};
-
-// The smaller of the two.
-pub fn within(n: usize, limit: usize) -> usize
-    ensures { λ r. ⌜ r ≡ min n limit ⌝ }
-{
-    if n < limit { n } else { limit }
-}
+use view::lent::clipped;
 
 // Zeroes every place from `from` on.
 fn clear(x: &mut [u64], from: usize)
@@ -73,7 +67,7 @@ fn shift(x: &mut [u64], i: usize, m: usize, v: u64)
 pub fn insert(x: &mut [u64], n: usize, v: u64) -> usize
     ensures { λ r. ⌜ Packed (into v (take n (now (x .entry)))) (length (now (x .entry))) (now (x .exit)) r ⌝ }
 {
-    let m = within(n, x.len());
+    let m = clipped(n, x.len());
     let i = seek(x, m, v);
     if i < m {
         if x[i] == v {
@@ -89,7 +83,7 @@ pub fn insert(x: &mut [u64], n: usize, v: u64) -> usize
 pub fn remove(x: &mut [u64], n: usize, v: u64) -> usize
     ensures { λ r. ⌜ Packed (without v (take n (now (x .entry)))) (length (now (x .entry))) (now (x .exit)) r ⌝ }
 {
-    let m = within(n, x.len());
+    let m = clipped(n, x.len());
     let mut kept: usize = 0;
     let mut i: usize = 0;
     while i < m {

@@ -17,8 +17,9 @@ use Rattle.rules.specs.Transaction.{writesOf}
 use Rattle.rules.specs.Chains.{walk}
 use Rattle.rules.specs.Fit.{fit, writeFit}
 use Rattle.rules.specs.Calls.{candidates}
-use Rattle.look.specs.Lent.{flagsAtRows, array-same}
-use Rattle.look.specs.Marks.{markAll, noRows, markedRows, mark-length, mark-append, marks-in-order}
+use Rattle.view.specs.Lent.{flagsAtRows, array-same}
+use Rattle.view.specs.Marks.{markAll, mark-length, mark-append}
+use Rattle.look.specs.Marks.{noRows, markedRows, rows-in-order}
 
 -- the rows of those of a list of postings that are of key k
 abbrev pub rowsOfKey : ℕ → List ℕ → List ℕ
@@ -82,7 +83,7 @@ pub candidates-marked : (S : Store) (x : Tx) (k : ℕ) → all (λ r. ltb r rows
 unfolding candidateMarks
 candidates-marked S x k h =
     let l = postedRows (S .postings) (S .«posting_count») k in
-    marks-in-order (l ++ ownRows (writesOf x)) (all-append (λ r. ltb r rows) l (ownRows (writesOf x)) (posted-low k (take (S .«posting_count») (S .postings))) h)
+    rows-in-order (l ++ ownRows (writesOf x)) (all-append (λ r. ltb r rows) l (ownRows (writesOf x)) (posted-low k (take (S .«posting_count») (S .postings))) h)
     ∙ sym (candidates-of S x k)
 
 -- in a fit transaction it has

@@ -1,12 +1,8 @@
-pub mod Lent
-pub mod First
-pub mod Active
 pub mod Sight
 pub mod Own
 pub mod Chain
 pub mod Found
 pub mod Slots
-pub mod Pad
 pub mod Reads
 pub mod Record
 pub mod Marks

@@ -13,7 +13,7 @@ use Rattle.rules.specs.Lists.{any, pad}
 use Rattle.rules.specs.Types.{Store, Tx, ReadRecord}
 use Rattle.rules.specs.Transaction.{lastOwn, writesOf}
 use Rattle.rules.specs.Calls.{recordRead, readPtr}
-use Rattle.look.specs.Pad.{pad-snoc, pad-over, take-clip}
+use Rattle.view.specs.Pad.{pad-snoc, pad-over, take-clip}
 use Rattle.look.specs.Found.{readPtrOf}
 use Rattle.look.specs.declared.reads.ReadList.{ReadList}
 

@@ -14,7 +14,7 @@ use Rattle.rules.specs.Lists.{any, pad}
 use Rattle.rules.specs.Bools.{by, clash}
 use Rattle.rules.specs.Types.{Tx, Write, ReadRecord}
 use Rattle.rules.specs.Transaction.{lastOwn, writesOf}
-use Rattle.look.specs.Pad.{pad-over, take-pad}
+use Rattle.view.specs.Pad.{pad-over, take-pad}
 use Rattle.look.specs.Found.{readPtrOf, read-own}
 use Rattle.look.specs.Reads.{laid, ofPtr, recordReadOf}
 use Rattle.look.specs.declared.reads.ReadList.{ReadList}

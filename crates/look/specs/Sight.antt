@@ -9,7 +9,7 @@ use Rattle.types.specs.Limits.{activeLimit}
 use Rattle.rules.specs.Lists.{memb}
 use Rattle.rules.specs.Types.{Tx}
 use Rattle.rules.specs.Transaction.{sees}
-use Rattle.look.specs.Lent.{atActive, array-same}
+use Rattle.view.specs.Lent.{atActive, array-same}
 
 unfoldable pub seesBy : List ℕ → ℕ → ℕ → ℕ → ℕ → Bool
 seesBy snapshot count reader end t = eqb t reader || (ltb t end && not (memb t (take count snapshot)))

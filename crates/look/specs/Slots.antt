@@ -8,13 +8,11 @@ use lib.ListN.{getD, drop}
 use lib.Dec.{eqb}
 use borrow.Author.Tests.{eq-eqb, ne-eqb}
 use Rattle.types.specs.Limits.{places}
-use Rattle.rules.specs.Lists.{memb, those, firstZero}
-use Rattle.rules.specs.Types.{Store}
-use Rattle.rules.specs.Store.{usedSlots, activeTxids}
+use Rattle.rules.specs.Lists.{those, firstZero}
+use Rattle.rules.specs.Store.{usedSlots}
 use Rattle.rules.specs.Chains.{walk, on}
 use Rattle.rules.specs.Puts.{ownSlots}
-use Rattle.rules.specs.Calls.{lockedByAnother}
-use Rattle.look.specs.Lent.{atPlaces, array-cons, array-end}
+use Rattle.view.specs.Lent.{atPlaces, array-cons, array-end}
 
 -- the first free place from i on
 unfoldable pub freeFrom : List ℕ → ℕ → ℕ
@@ -32,15 +30,6 @@ module _ (xmin : List ℕ) (i : ℕ) where
   pub free-next : i < places → (getD xmin i 0 ≡ 0 → ⊥) → freeFrom xmin i ≡ freeFrom xmin (i + 1)
   unfolding freeFrom
   free-next h n = rw (array-cons places 0 xmin i h, ne-eqb (getD xmin i 0) 0 n, add-one)
-
-module _ (locked : List Bool) (owner active : List ℕ) (t p : ℕ) where
-  unfoldable pub lockedOf : Bool
-  lockedOf = let o = getD owner p 0 in getD locked p false && (not (eqb o t) && memb o (activeTxids active))
-
--- it is the definition's on the whole store
-pub locked-of : (S : Store) (t p : ℕ) → lockedByAnother S t p ≡ lockedOf (S .locked) (S .owner) (S .active) t p
-unfolding lockedByAnother lockedOf
-locked-of S t p = refl
 
 -- "every off-chain slot of the txid": slot p, by the marks of the walk
 unfoldable pub ownSlot : List ℕ → List ℕ → ℕ → ℕ → Bool

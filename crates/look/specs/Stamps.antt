@@ -12,7 +12,7 @@ use Rattle.rules.specs.Lists.{any, pad}
 use Rattle.rules.specs.Types.{Tx, IndexRead}
 use Rattle.rules.specs.Transaction.{sees}
 use Rattle.rules.specs.Calls.{recordStamp}
-use Rattle.look.specs.Pad.{pad-snoc, pad-over, take-clip}
+use Rattle.view.specs.Pad.{pad-snoc, pad-over, take-clip}
 use Rattle.look.specs.declared.stamps.IndexReadList.{IndexReadList}
 
 unfoldable pub indexReadList : List IndexRead → IndexReadList

@@ -2,9 +2,8 @@
 
 ghost use mathlib.Core.Path.{_≡_};
 ghost use lib.ListN.{length, getD};
-ghost use Rattle.rules.specs.Lists.{memb};
 ghost use Rattle.rules.specs.Store.{activeTxids};
-ghost use Rattle.look.specs.Lent.{atActive};
+ghost use Rattle.view.specs.Lent.{atActive};
 use types::Txid;
 
 // How many txids are active.
@@ -19,24 +18,6 @@ pub fn active_count(active: &[u64; Txid::ACTIVE]) -> usize
         i += 1;
     }
     i
-}
-
-// A txid is active if it stands before the first 0.
-pub fn is_active(active: &[u64; Txid::ACTIVE], t: Txid) -> bool
-    ensures { λ r. ⌜ r ≡ memb (t .0) (activeTxids (atActive (now (active .entry)))) ⌝ }
-{
-    let mut i: usize = 0;
-    while i < Txid::ACTIVE {
-        let a = active[i];
-        if a == 0 {
-            return false;
-        }
-        if a == t.0 {
-            return true;
-        }
-        i += 1;
-    }
-    false
 }
 
 // The smallest active txid: the list rises, so it is the first; `clock` if there is none.

@@ -2,13 +2,14 @@
 
 ghost use mathlib.Core.Path.{_≡_};
 ghost use Rattle.rules.specs.Transaction.{writesOf};
-ghost use Rattle.look.specs.Lent.{atPostings};
-ghost use Rattle.look.specs.Marks.{markAll, noRows};
+ghost use Rattle.view.specs.Lent.{atPostings};
+ghost use Rattle.view.specs.Marks.{markAll};
+ghost use Rattle.look.specs.Marks.{noRows};
 ghost use Rattle.look.specs.Candidates.{postedRows, ownRows, candidateMarks};
-use super::lent::clipped;
 use types::RowId;
 use types::Store;
 use types::Tx;
+use view::lent::clipped;
 
 // The rows of the postings of key k.
 fn posted_rows(postings: &[u64; Store::POSTINGS], count: usize, k: u32) -> [bool; RowId::ROWS]

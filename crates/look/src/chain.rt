@@ -2,14 +2,14 @@
 
 ghost use mathlib.Core.Path.{_≡_};
 ghost use Rattle.rules.specs.Calls.{visibleVersion};
-ghost use Rattle.look.specs.Lent.{atRows, atPlaces};
-use super::lent::head_of;
-use super::lent::pointer_at;
-use super::lent::txid_at;
+ghost use Rattle.view.specs.Lent.{atRows, atPlaces};
 use super::sight::sees_by;
 use types::RowId;
 use types::SlotPtr;
 use types::Tx;
+use view::lent::head_of;
+use view::lent::pointer_at;
+use view::lent::txid_at;
 
 // The first version of the row's chain with a visible creator, null if there is none. A chain has no more versions than there are places.
 pub fn visible_version<'a>(

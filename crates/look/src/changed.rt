@@ -7,7 +7,6 @@ ghost use Rattle.types.specs.Zero.{onlyTxid};
 ghost use Rattle.rules.specs.Transaction.{writesOf, withWrites, withReads, withIndexReads};
 ghost use Rattle.look.specs.Reads.{laid};
 ghost use Rattle.look.specs.Stamps.{indexReadList};
-use super::lent::clipped;
 use super::reads::ReadList;
 use super::stamps::IndexReadList;
 use types::IndexRead;
@@ -15,6 +14,7 @@ use types::ReadRecord;
 use types::Tx;
 use types::Txid;
 use types::Write;
+use view::lent::clipped;
 
 // Its reads those of a list that fits.
 pub fn with_reads(x: Tx, l: ReadList) -> Tx

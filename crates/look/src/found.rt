@@ -1,7 +1,7 @@
 // What read and write find for a row.
 
 ghost use mathlib.Core.Path.{_≡_};
-ghost use Rattle.look.specs.Lent.{atRows, atPlaces};
+ghost use Rattle.view.specs.Lent.{atRows, atPlaces};
 ghost use Rattle.look.specs.Found.{readPtrOf, baseOfRow};
 use super::chain::visible_version;
 use super::own::last_own;

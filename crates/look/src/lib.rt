@@ -6,7 +6,6 @@ pub mod candidates;
 pub mod chain;
 pub mod changed;
 pub mod found;
-mod lent;
 pub mod lookup;
 pub mod own;
 pub mod reads;

@@ -2,20 +2,20 @@
 
 ghost use mathlib.Core.Path.{_≡_};
 ghost use Rattle.rules.specs.Transaction.{readsOf};
-ghost use Rattle.look.specs.Lent.{atRows, atPlaces, flagsAtPlaces, flagsAtRows};
+ghost use Rattle.view.specs.Lent.{atRows, atPlaces, flagsAtPlaces, flagsAtRows};
 ghost use Rattle.look.specs.Marks.{markedRows};
 ghost use Rattle.look.specs.Reads.{laid};
 ghost use Rattle.look.specs.Rows.{rowList};
 ghost use Rattle.look.specs.Lookup.{recordReadsOf, hasKey, matchingOf};
 use super::found::read_ptr;
-use super::lent::flag_at;
-use super::lent::key_at;
 use super::reads::ReadList;
 use super::reads::reads_of;
 use super::reads::record_read;
 use types::RowId;
 use types::SlotPtr;
 use types::Tx;
+use view::lent::flag_at;
+use view::lent::key_at;
 
 // The transaction's reads with those of the marked rows recorded, rising.
 pub fn record_marked<'a>(

@@ -2,10 +2,10 @@
 
 ghost use mathlib.Core.Path.{_≡_};
 ghost use Rattle.rules.specs.Transaction.{lastOwn, writesOf};
-use super::lent::clipped;
 use types::RowId;
 use types::Tx;
 use types::Write;
+use view::lent::clipped;
 
 // The last own write of a row; its new pointer is null if there is none.
 pub fn last_own(x: Tx, r: RowId) -> Write

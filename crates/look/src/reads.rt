@@ -5,16 +5,16 @@ ghost use mathlib.Core.List.{List, _∷_, [], _++_};
 ghost use lib.ListN.{take};
 ghost use Rattle.rules.specs.Lists.{any};
 ghost use Rattle.rules.specs.Transaction.{readsOf};
-ghost use Rattle.look.specs.Lent.{atRows, atPlaces};
+ghost use Rattle.view.specs.Lent.{atRows, atPlaces};
 ghost use Rattle.look.specs.Reads.{laid, ofPtr, recordReadOf};
 use super::chain::visible_version;
-use super::lent::clipped;
-use super::lent::txid_at;
 use super::own::last_own;
 use types::ReadRecord;
 use types::RowId;
 use types::SlotPtr;
 use types::Tx;
+use view::lent::clipped;
+use view::lent::txid_at;
 
 // A list of reads: its first ones in an array, and whether there are more than the array has places.
 pub struct ReadList {

@@ -1,29 +1,12 @@
 // What a transaction sees.
 
 ghost use mathlib.Core.Path.{_≡_};
-ghost use lib.ListN.{take};
-ghost use Rattle.rules.specs.Lists.{memb};
 ghost use Rattle.rules.specs.Transaction.{sees};
-ghost use Rattle.look.specs.Lent.{atActive};
+ghost use Rattle.view.specs.Lent.{atActive};
 ghost use Rattle.look.specs.Sight.{seesBy};
-use super::lent::clipped;
 use types::Tx;
 use types::Txid;
-
-// A txid among the first `count` of a snapshot.
-pub fn in_snapshot(snapshot: &[u64; Txid::ACTIVE], count: usize, t: Txid) -> bool
-    ensures { λ r. ⌜ r ≡ memb (t .0) (take count (atActive (now (snapshot .entry)))) ⌝ }
-{
-    let n = clipped(count, Txid::ACTIVE);
-    let mut i: usize = 0;
-    while i < n {
-        if snapshot[i] == t.0 {
-            return true;
-        }
-        i += 1;
-    }
-    false
-}
+use view::txids::in_snapshot;
 
 // The same as `sees`, from the parts of the transaction that it reads.
 pub fn sees_by(

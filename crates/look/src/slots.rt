@@ -1,18 +1,17 @@
-// Slots: the lowest free one, who locks one, what one holds, and which are a transaction's own.
+// Slots: the lowest free one, what one holds, and which are a transaction's own.
 
 ghost use mathlib.Core.Path.{_≡_};
 ghost use Rattle.rules.specs.Store.{valueAt};
 ghost use Rattle.rules.specs.Calls.{lowestFree};
-ghost use Rattle.look.specs.Lent.{atPlaces, flagsAtPlaces, atActive};
-ghost use Rattle.look.specs.Slots.{lockedOf, ownSlot};
-use super::active::is_active;
-use super::lent::flag_at;
-use super::lent::key_at;
-use super::lent::mark_at;
-use super::lent::txid_at;
+ghost use Rattle.view.specs.Lent.{atPlaces, flagsAtPlaces};
+ghost use Rattle.look.specs.Slots.{ownSlot};
 use types::SlotPtr;
 use types::Txid;
 use types::Value;
+use view::lent::flag_at;
+use view::lent::key_at;
+use view::lent::mark_at;
+use view::lent::txid_at;
 
 // The lowest free slot, null if there is none.
 pub fn lowest_free(xmin: &[u64; SlotPtr::PLACES]) -> SlotPtr
@@ -26,26 +25,6 @@ pub fn lowest_free(xmin: &[u64; SlotPtr::PLACES]) -> SlotPtr
         i += 1;
     }
     SlotPtr::NULL
-}
-
-// Locked by an active owner other than t: a lock whose owner isn't active is void.
-pub fn locked_by_another<'a>(
-    locked: &'a [bool; SlotPtr::PLACES],
-    owner: &'a [u64; SlotPtr::PLACES],
-    active: &'a [u64; Txid::ACTIVE],
-    t: Txid,
-    p: SlotPtr,
-) -> bool
-    ensures { λ r. ⌜ r ≡ lockedOf (flagsAtPlaces (now (locked .entry))) (atPlaces (now (owner .entry))) (atActive (now (active .entry))) (t .0) (p .0) ⌝ }
-{
-    if !flag_at(locked, p) {
-        return false;
-    }
-    let o = txid_at(owner, p);
-    if o.0 == t.0 {
-        return false;
-    }
-    is_active(active, o)
 }
 
 // The value of a slot; none for a free one, for null and for a slot that is none.

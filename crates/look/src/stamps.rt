@@ -6,14 +6,14 @@ ghost use Rattle.rules.specs.Lists.{any};
 ghost use Rattle.rules.specs.Store.{stripeOf};
 ghost use Rattle.rules.specs.Transaction.{indexReadsOf};
 ghost use Rattle.rules.specs.Calls.{recordStamp};
-ghost use Rattle.look.specs.Lent.{atStripes};
+ghost use Rattle.view.specs.Lent.{atStripes};
 ghost use Rattle.look.specs.Stamps.{indexReadList, ofStripe, indexConflict};
-use super::lent::clipped;
 use super::sight::sees;
 use types::IndexRead;
 use types::Store;
 use types::Tx;
 use types::Txid;
+use view::lent::clipped;
 
 // A list of index reads in an array; a count above its places means that the last one has none.
 pub struct IndexReadList {

@@ -1,12 +1,11 @@
 -- The postings of the heads, put in from the last row down.
-use mathlib.Core.Path.{_≡_, refl, ap}
+use mathlib.Core.Path.{_≡_, refl, _∙_}
 use mathlib.Core.Bool.{Bool, true, false, cond}
 use mathlib.Core.List.{List, [], _∷_}
-use Prim.Native.Nat.{ℕ, zero, suc, _-_, _<_, _≤_}
-use native.Mathlib.Nat.{not-suc-le-zero, le-of-suc-le-suc}
+use Prim.Native.Nat.{ℕ, suc, _-_, _<_, _≤_, min}
 use native.Mathlib.Omega.{arith}
 use lib.ListN.{length, getD, take, drop, replicate, length-drop}
-use lib.Seq.{drop-cons}
+use lib.Seq.{drop-cons, take-all}
 use lib.Dec.{eqb, ltb}
 use Rattle.types.specs.Limits.{rows, postingLimit}
 use Rattle.rules.specs.Bools.{by}
@@ -14,13 +13,12 @@ use Rattle.rules.specs.Lists.{pad, into}
 use Rattle.rules.specs.Store.{posting}
 use Rattle.rules.specs.Admitted.{headPostings}
 use Rattle.journal.specs.Packed.{Packed}
-use Rattle.admit.specs.Lent.{array, atRows, array-length, array-at, array-end}
+use Rattle.view.specs.Lent.{array, atRows, array-length, array-at, array-end}
+use Rattle.view.specs.Pad.{take-pad}
 
 -- a list laid out in an array that has room for it is read back
-take-pad : (n : ℕ) (l : List ℕ) → length l ≤ n → take (length l) (pad n 0 l) ≡ l
-take-pad n [] h = refl
-take-pad zero (x ∷ l) h = absurd (not-suc-le-zero h)
-take-pad (suc n) (x ∷ l) h = ap (λ (r : List ℕ). x ∷ r) (take-pad n l (le-of-suc-le-suc h))
+taken-back : (n : ℕ) (l : List ℕ) → length l ≤ n → take (length l) (pad n 0 l) ≡ l
+taken-back n l h = let e : min (length l) n ≡ length l = omega arith in (rw e at (take-pad n 0 l)) ∙ take-all n l h
 
 -- one number put in makes a list longer by at most one
 into-length : (v : ℕ) (l : List ℕ) → length (into v l) ≤ suc (length l)
@@ -81,7 +79,7 @@ module _ (key : List ℕ) (has : List Bool) (heads x : List ℕ) (n r i : ℕ) (
   long = rw (held .at) (array-length postingLimit 0 (postingsFrom key has heads r))
 
   first : take n x ≡ postingsFrom key has heads r
-  first = rw (held .at, held .count) (take-pad postingLimit (postingsFrom key has heads r) (postings-fit key has heads r))
+  first = rw (held .at, held .count) (taken-back postingLimit (postingsFrom key has heads r) (postings-fit key has heads r))
 
   pub rebuild-put : (k : ℕ) {y : List ℕ} {m : ℕ} → getD has i false ≡ true → k ≡ getD key i 0 → Packed (into (posting k (r - 1)) (take n x)) (length x) y m
       → Packed (postingsFrom key has heads (r - 1)) postingLimit y m

@@ -11,7 +11,7 @@ use Rattle.rules.specs.Chains.{Walk, walk}
 use Rattle.rules.specs.Admitted.{finished, headPostings, repairable}
 use Rattle.rules.specs.Recovery.{trimHead, clear, recovered, recover}
 use Rattle.journal.specs.Packed.{Packed}
-use Rattle.admit.specs.Lent.{atRows, atPlaces, array-same}
+use Rattle.view.specs.Lent.{atRows, atPlaces, array-same}
 
 -- a store with each part as recovery makes it is the recovered store
 module _ (S : Store) (many : length (S .heads) ≡ rows) (long : length (S .next) ≡ places) where

@@ -3,8 +3,8 @@
 ghost use mathlib.Core.Path.{_≡_};
 ghost use Rattle.rules.specs.Admitted.{finished};
 ghost use Rattle.rules.specs.Recovery.{clear};
-use super::reads::is_finished;
-use super::reads::place;
+use view::lent::place;
+use view::txids::is_finished;
 
 // Heads past the last slot have no xmax.
 pub fn clear_heads<'a>(xmax: &mut [u64], heads: &'a [u32], active: &'a [u64], doomed: u64)

@@ -9,7 +9,7 @@ mod reads;
 mod rebuild;
 mod trim;
 
-use admit::store::repairable_of;
+use admit::store::repairable;
 use admit::walk::walk_all;
 use clear::clear_heads;
 use keep::keep_all;
@@ -67,21 +67,7 @@ fn recovered(s: Store) -> Store
 pub fn recover(s: Store) -> Mended
     ensures { λ r. ⌜ r ≡ recover s ⌝ }
 {
-    let mut seen = [0; SlotPtr::PLACES];
-    if repairable_of(
-        &s.heads,
-        &s.xmin,
-        &s.xmax,
-        &s.next,
-        &s.key,
-        &s.has,
-        &s.locked,
-        &s.owner,
-        &s.active,
-        s.clock,
-        s.doomed,
-        &mut seen,
-    ) {
+    if repairable(s) {
         let store = recovered(s);
         return Mended {
             refusal: Refusal::Done,

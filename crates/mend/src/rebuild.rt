@@ -3,13 +3,13 @@
 ghost use Rattle.types.specs.Limits.{postingLimit};
 ghost use Rattle.rules.specs.Admitted.{headPostings};
 ghost use Rattle.journal.specs.Packed.{Packed};
-ghost use Rattle.admit.specs.Lent.{atRows};
+ghost use Rattle.view.specs.Lent.{atRows};
 use super::reads::flag_at;
-use super::reads::place;
 use super::reads::word_at;
 use journal::packed;
 use types::RowId;
 use types::Store;
+use view::lent::place;
 
 // Rows from the last down: each goes in front of those above it, as the definition puts them.
 pub fn rebuild<'a>(

@@ -4,10 +4,10 @@ ghost use mathlib.Core.Path.{_≡_};
 ghost use mathlib.Core.List.{map};
 ghost use Rattle.rules.specs.Admitted.{finished};
 ghost use Rattle.rules.specs.Recovery.{trimHead};
-use super::reads::is_finished;
-use super::reads::place;
 use super::reads::txid_at;
 use super::reads::word_at;
+use view::lent::place;
+use view::txids::is_finished;
 
 // The head that a row is left with: the slot behind an unfinished one.
 fn trimmed<'a>(h: u32, xmin: &'a [u64], next: &'a [u32], active: &'a [u64], doomed: u64) -> u32

@@ -18,9 +18,9 @@ use Rattle.rules.specs.Changes.{changes, destinations, sources, indexGuards, pa
 use Rattle.journal.specs.Journal.{placeBase, narrow, Pushed}
 use Rattle.journal.specs.Holds.{kept-wide}
 use Rattle.journal.specs.Adds.{Adds, adds-push, adds-then}
-use Rattle.look.specs.Pad.{take-clip}
+use Rattle.view.specs.Pad.{take-clip}
 use Rattle.plan.specs.declared.moves.Codes.{Codes}
-use Rattle.plan.specs.Marks.{markedFrom}
+use Rattle.view.specs.Marks.{markedFrom}
 use Rattle.plan.specs.Pushes.{marked, listed, listedBack}
 use Rattle.plan.specs.Plain.{plain, finals-plain}
 use Rattle.plan.specs.Publish.{publishing, publishing-whole}

@@ -17,7 +17,7 @@ use Rattle.rules.specs.Fit.{countsFit, fit}
 use Rattle.rules.specs.Puts.{putFree, putDrop, ownSlots, abortPuts}
 use Rattle.rules.specs.Changes.{Change, changes, destinations, sources, changedStripes, guardedStripes, guardedPartitions, indexGuards, partitionGuards, release, publishOne, insertions, removals, publication, recycled, recycling, stamping}
 use Rattle.laws.specs.Parts.{fit-parts}
-use Rattle.plan.specs.Marks.{markedFrom, marked-few}
+use Rattle.view.specs.Marks.{markedFrom, marked-few}
 use Rattle.plan.specs.Moves.{changedMarks, destinations-few, sources-few, changes-few}
 use Rattle.plan.specs.Guards.{guardedMarks, partitionMarks, fit-reads, changed-marked, guarded-marked, partitions-marked, changed-long, guarded-long, partitions-long}
 use Rattle.plan.specs.Own.{ownMarks, own-marked, own-long, recycledMarks, recycled-marked, recycled-long}

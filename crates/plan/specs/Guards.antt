@@ -16,7 +16,7 @@ use Rattle.rules.specs.Transaction.{writesOf, readsOf, indexReadsOf}
 use Rattle.rules.specs.Fit.{fit, stripesApart}
 use Rattle.rules.specs.Changes.{Change, stripesIn, changedStripes, guardedStripes, guardedPartitions}
 use Rattle.laws.specs.Parts.{fit-parts}
-use Rattle.plan.specs.Marks.{markAll, markedFrom, mark-length, mark-append, marks-in-order, order-marks, order-all, all-append}
+use Rattle.view.specs.Marks.{markAll, markedFrom, mark-length, mark-append, marks-in-order, order-marks, order-all, all-append}
 use Rattle.plan.specs.Moves.{noStripes, stripesOf, changedMarks}
 
 -- the place of a guard

@@ -1,4 +1,3 @@
-pub mod Marks
 pub mod Pushes
 pub mod Plain
 pub mod Publish

@@ -14,10 +14,11 @@ use Rattle.rules.specs.Bools.{by}
 use Rattle.rules.specs.Types.{Write, Value, Absent, Key}
 use Rattle.rules.specs.Store.{valueAt, sameValue}
 use Rattle.rules.specs.Changes.{Change, changeOf, indexChanges, postingIn, destinations, sources, stripesIn}
-use Rattle.look.specs.Pad.{pad-snoc}
+use Rattle.view.specs.Pad.{pad-snoc}
 use Rattle.plan.specs.declared.moves.Codes.{Codes}
 use Rattle.plan.specs.declared.moves.Moves.{Moves}
-use Rattle.plan.specs.Marks.{markAll, mark-append}
+use Rattle.view.specs.Few.{those-few}
+use Rattle.view.specs.Marks.{markAll, mark-append}
 use Rattle.plan.specs.Plain.{plain, low, low-same}
 
 -- postings laid out in an array, with their number
@@ -101,10 +102,6 @@ those-append f (y ∷ l) x = by (f y) (λ e. rw (e, those-append f l x)) (λ e. 
 map-append {ℓ κ} : {A : Type ℓ} {B : Type κ} (f : A → B) (l : List A) (x : A) → map f (l ++ x ∷ []) ≡ map f l ++ f x ∷ []
 map-append f [] x = refl
 map-append {B = B} f (y ∷ l) x = ap (λ (r : List B). f y ∷ r) (map-append f l x)
-
-those-few {ℓ} : {A : Type ℓ} (f : A → Bool) (l : List A) → length (those f l) ≤ length l
-those-few f [] = omega arith
-those-few f (x ∷ l) = let h = those-few f l in by (f x) (λ e. rw e (omega arith)) (λ e. rw e (omega arith))
 
 pub changes-few : (key : List ℕ) (has : List Bool) (ws : List Write) → length (indexChanges key has ws) ≤ length ws
 unfolding indexChanges

@@ -18,9 +18,9 @@ use Rattle.rules.specs.Transaction.{finals}
 use Rattle.rules.specs.Chains.{walk}
 use Rattle.rules.specs.Puts.{ownSlots}
 use Rattle.rules.specs.Changes.{recycled}
-use Rattle.look.specs.Lent.{atPlaces, array-cons, array-end}
+use Rattle.view.specs.Lent.{atPlaces, array-cons, array-end}
 use Rattle.look.specs.Slots.{ownSlot, own-slots}
-use Rattle.plan.specs.Marks.{markAll, markedFrom, mark-length, marks-in-order}
+use Rattle.view.specs.Marks.{markAll, markedFrom, mark-length, marks-in-order}
 
 -- no slot is marked; shut, since a goal would show all its flags
 unfoldable pub noSlots : List Bool

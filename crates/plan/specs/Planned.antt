@@ -21,11 +21,11 @@ use Rattle.rules.specs.Commit.{fails, count, rollback}
 use Rattle.rules.specs.Outcome.{worse}
 use Rattle.journal.specs.Journal.{putLimit}
 use Rattle.journal.specs.Adds.{Adds, adds-then}
-use Rattle.look.specs.Pad.{take-pad}
+use Rattle.view.specs.Pad.{take-pad}
 use Rattle.plan.specs.declared.moves.Moves.{Moves}
 use Rattle.plan.specs.declared.run.Plan.{Plan}
 use Rattle.plan.specs.declared.run.Struck.{Struck}
-use Rattle.plan.specs.Marks.{markAll}
+use Rattle.view.specs.Marks.{markAll}
 use Rattle.plan.specs.Plain.{plain, finals-plain}
 use Rattle.plan.specs.Moves.{codesOf, changedMarks, movesOf}
 use Rattle.plan.specs.Guards.{stripeRead, guardedMarks, partitionMarks}

@@ -21,7 +21,7 @@ use Rattle.journal.specs.Journal.{Kept}
 use Rattle.journal.specs.Holds.{kept-wide, kept-small}
 use Rattle.journal.specs.Adds.{Adds}
 use Rattle.plan.specs.Plain.{plain, plain-parts}
-use Rattle.plan.specs.Pushes.{Pushing, pushing-more}
+use Rattle.journal.specs.Pushing.{Pushing, pushing-more}
 
 -- the puts of a plain write can be journalled
 pub head-kept : (w : Write) → plain w ≡ true → Kept (putHead (w .row .0) (w .new .0))

@@ -22,12 +22,12 @@ use crate::publish;
 use crate::pushes;
 use journal::Journal;
 use journal::Kind;
-use journal::packed;
 use types::RowId;
 use types::SlotPtr;
 use types::Store;
 use types::Tx;
 use types::Write;
+use view::lent::clipped;
 
 // The stripe guards set to t: the txid to take them, 0 to let them go.
 pub fn push_index_guards(
@@ -70,7 +70,7 @@ pub fn push_release<'a>(
 pub fn push_insertions(into: Codes, limit: usize, j: &mut [u64; Journal::WORDS], n: usize) -> usize
     ensures { λ r. ⌜ ((S : Store) (x : Tx) → into ≡ codesOf (destinations (changes S x)) → fit S x ≡ true → Adds (now (j .entry)) n (take limit (insertions S x)) (now (j .exit)) r) ⌝ }
 {
-    let some = packed::within(limit, into.count);
+    let some = clipped(limit, into.count);
     pushes::push_listed(&into.at, Kind::INSERT, some, j, n)
 }
 
@@ -78,7 +78,7 @@ pub fn push_insertions(into: Codes, limit: usize, j: &mut [u64; Journal::WORDS],
 pub fn push_removals(out: Codes, limit: usize, j: &mut [u64; Journal::WORDS], n: usize) -> usize
     ensures { λ r. ⌜ ((S : Store) (x : Tx) → out ≡ codesOf (sources (changes S x)) → fit S x ≡ true → Adds (now (j .entry)) n (take limit (removals S x)) (now (j .exit)) r) ⌝ }
 {
-    let some = packed::within(limit, out.count);
+    let some = clipped(limit, out.count);
     pushes::push_listed(&out.at, Kind::REMOVE, some, j, n)
 }
 
@@ -92,7 +92,7 @@ pub fn push_rollback(
 ) -> usize
     ensures { λ r. ⌜ ((S : Store) (x : Tx) → into ≡ codesOf (destinations (changes S x)) → fit S x ≡ true → Adds (now (j .entry)) n (take limit (map putRemove (reverse (take made (destinations (changes S x)))))) (now (j .exit)) r) ⌝ }
 {
-    let from = packed::within(made, into.count);
+    let from = clipped(made, into.count);
     pushes::push_back(&into.at, from, Kind::REMOVE, limit, j, n)
 }
 

@@ -3,19 +3,19 @@
 ghost use mathlib.Core.Path.{_≡_};
 ghost use mathlib.Core.List.{map};
 ghost use Rattle.rules.specs.Transaction.{readsOf, indexReadsOf};
-ghost use Rattle.plan.specs.Marks.{markAll};
+ghost use Rattle.view.specs.Marks.{markAll};
 ghost use Rattle.plan.specs.Guards.{stripeRead, partitionRead, writtenMarks, partitionMarks};
-use journal::packed;
 use types::RowId;
 use types::Store;
 use types::Tx;
+use view::lent::clipped;
 
 // The stripes of index reads, besides those that are marked; a stripe too high is not marked.
 pub fn guarded_stripes(x: Tx, changed: [bool; Store::STRIPES]) -> [bool; Store::STRIPES]
     ensures { λ q. ⌜ q ≡ markAll (map stripeRead (indexReadsOf x)) changed ⌝ }
 {
     let mut q = changed;
-    let n = packed::within(x.index_read_count, Tx::INDEX_READS);
+    let n = clipped(x.index_read_count, Tx::INDEX_READS);
     let mut i: usize = 0;
     while i < n {
         let e = x.index_reads[i];
@@ -33,7 +33,7 @@ fn written_partitions(x: Tx) -> [bool; RowId::PARTITIONS]
     ensures { λ q. ⌜ q ≡ writtenMarks x ⌝ }
 {
     let mut q = [false; RowId::PARTITIONS];
-    let n = packed::within(x.write_count, Tx::WRITES);
+    let n = clipped(x.write_count, Tx::WRITES);
     let mut i: usize = 0;
     while i < n {
         let w = x.writes[i];
@@ -48,7 +48,7 @@ fn read_partitions(x: Tx, m: [bool; RowId::PARTITIONS]) -> [bool; RowId::PARTITI
     ensures { λ q. ⌜ q ≡ markAll (map partitionRead (readsOf x)) m ⌝ }
 {
     let mut q = m;
-    let n = packed::within(x.read_count, Tx::READS);
+    let n = clipped(x.read_count, Tx::READS);
     let mut i: usize = 0;
     while i < n {
         let e = x.reads[i];

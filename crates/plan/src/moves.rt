@@ -9,11 +9,10 @@ ghost use Rattle.types.specs.Limits.{rows, writeLimit};
 ghost use Rattle.rules.specs.Lists.{all};
 ghost use Rattle.rules.specs.Store.{sameValue};
 ghost use Rattle.rules.specs.Changes.{Change, indexChanges, postingIn, stripesIn};
-ghost use Rattle.look.specs.Lent.{atPlaces, flagsAtPlaces};
-ghost use Rattle.plan.specs.Marks.{markAll};
+ghost use Rattle.view.specs.Lent.{atPlaces, flagsAtPlaces};
+ghost use Rattle.view.specs.Marks.{markAll};
 ghost use Rattle.plan.specs.Plain.{plain};
 ghost use Rattle.plan.specs.Moves.{codesOf, movesOf, change};
-use journal::packed;
 use look::slots;
 use types::RowId;
 use types::SlotPtr;
@@ -21,6 +20,7 @@ use types::Store;
 use types::Tx;
 use types::Value;
 use types::Write;
+use view::lent::clipped;
 
 // Postings, at most one for a write: the first `count` places.
 pub struct Codes {
@@ -116,7 +116,7 @@ pub fn index_changes<'a>(
 ) -> Moves
     ensures { λ r. ⌜ (all plain (take count at) ≡ true → r ≡ movesOf (indexChanges (atPlaces (now (key .entry))) (flagsAtPlaces (now (has .entry))) (take count at))) ⌝ }
 {
-    let end = packed::within(count, Tx::WRITES);
+    let end = clipped(count, Tx::WRITES);
     let none = Codes {
         at: [0; Tx::WRITES],
         count: 0,

@@ -3,14 +3,14 @@
 ghost use mathlib.Core.Path.{_≡_};
 ghost use mathlib.Core.List.{map};
 ghost use lib.ListN.{take};
-ghost use Rattle.look.specs.Lent.{atPlaces};
+ghost use Rattle.view.specs.Lent.{atPlaces};
 ghost use Rattle.plan.specs.Own.{ownMarks, unmarkAll, newOf};
-use journal::packed;
 use look::slots;
 use types::SlotPtr;
 use types::Tx;
 use types::Txid;
 use types::Write;
+use view::lent::clipped;
 
 // The used slots of t off every chain, by the marks of the walk.
 pub fn own_marks<'a>(
@@ -43,7 +43,7 @@ pub fn recycled_marks(
     ensures { λ m. ⌜ m ≡ unmarkAll (map newOf (take count at)) own ⌝ }
 {
     let mut m = own;
-    let n = packed::within(count, Tx::WRITES);
+    let n = clipped(count, Tx::WRITES);
     let mut i: usize = 0;
     while i < n {
         let w = at[i];

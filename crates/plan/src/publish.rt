@@ -12,6 +12,7 @@ use journal::Journal;
 use journal::Kind;
 use types::Tx;
 use types::Write;
+use view::lent::clipped;
 
 fn less(a: usize, b: usize) -> usize
     ensures { λ r. ⌜ r ≡ a - b ⌝ }
@@ -54,7 +55,7 @@ pub(crate) fn push_writes(
 ) -> usize
     ensures { λ r. ⌜ (all plain (take count at) ≡ true → Adds (now (j .entry)) n (publishing t limit 0 (take count at)) (now (j .exit)) r) ⌝ }
 {
-    let end = journal::packed::within(count, Tx::WRITES);
+    let end = clipped(count, Tx::WRITES);
     let mut k = n;
     let mut left = limit;
     let mut i: usize = 0;

@@ -9,7 +9,7 @@ ghost use Rattle.journal.specs.Journal.{placeBase, narrow};
 ghost use Rattle.journal.specs.Adds.{Adds};
 ghost use Rattle.plan.specs.Pushes.{marked, listed, listedBack};
 use journal::Journal;
-use journal::packed;
+use view::lent::clipped;
 
 // A put of one kind and value for each marked place, rising, and no more than `limit`: guards, stamps, frees.
 pub(crate) fn push_marked(
@@ -77,7 +77,7 @@ pub(crate) fn push_back(
 {
     let mut k = n;
     let mut left = limit;
-    let mut i = packed::within(from, codes.len());
+    let mut i = clipped(from, codes.len());
     while 0 < i {
         if left == 0 {
             return k;

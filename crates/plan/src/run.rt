@@ -16,7 +16,7 @@ ghost use Rattle.rules.specs.Puts.{putDrop};
 ghost use Rattle.rules.specs.Changes.{changes, destinations, indexGuards, partitionGuards};
 ghost use Rattle.rules.specs.Commit.{fails, poison, abortOrPoison, rollback};
 ghost use Rattle.journal.specs.Adds.{Adds};
-ghost use Rattle.look.specs.Lent.{atPlaces, flagsAtPlaces};
+ghost use Rattle.view.specs.Lent.{atPlaces, flagsAtPlaces};
 ghost use Rattle.plan.specs.Moves.{codesOf};
 ghost use Rattle.plan.specs.Guards.{guardedMarks, partitionMarks};
 ghost use Rattle.plan.specs.Own.{ownMarks};

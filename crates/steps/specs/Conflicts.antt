@@ -10,7 +10,7 @@ use Rattle.rules.specs.Types.{Store, Tx, Write, ReadRecord, IndexRead}
 use Rattle.rules.specs.Transaction.{writesOf, readsOf, indexReadsOf, snapshotOf, finals}
 use Rattle.rules.specs.Calls.{lockedByAnother}
 use Rattle.rules.specs.Tests.{indexReadConflict, rowLockConflict, readConflict, serializationConflict, writeBaseConflict}
-use Rattle.steps.specs.Slots.{lockedOf}
+use Rattle.view.specs.Locks.{lockedOf}
 
 -- 11: a recorded stamp differs
 unfoldable pub stampMoved : List ℕ → IndexRead → Bool

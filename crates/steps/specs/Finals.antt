@@ -16,9 +16,9 @@ use Rattle.rules.specs.Bools.{by}
 use Rattle.rules.specs.Types.{Tx, Write}
 use Rattle.rules.specs.Transaction.{writesOf, finalWrites, finals}
 use Rattle.steps.specs.declared.finals.Finals.{Finals}
-use Rattle.steps.specs.First.{firstFrom, first-next}
-use Rattle.steps.specs.Pad.{pad-more, take-pad}
-use Rattle.steps.specs.Lent.{array, array-length}
+use Rattle.view.specs.First.{firstFrom, first-next}
+use Rattle.view.specs.Pad.{pad-more, take-pad}
+use Rattle.view.specs.Lent.{array, array-length}
 
 -- the final writes laid out in an array, with their number
 unfoldable pub finalsLaid : Tx → Finals

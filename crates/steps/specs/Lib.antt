@@ -1,8 +1,3 @@
-pub mod Lent
-pub mod First
-pub mod Pad
-pub mod Active
-pub mod Slots
 pub mod Faults
 pub mod Conflicts
 pub mod Finals

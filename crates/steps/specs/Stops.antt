@@ -16,7 +16,7 @@ use Rattle.rules.specs.Commit.{strikes, Run, runOf}
 use Rattle.rules.specs.Gates.{Gate, first, gates, clean, run-gates}
 use Rattle.types.specs.Limits.{rows, places, stripes, activeLimit}
 use Rattle.steps.specs.declared.faults.Letters.{Letters}
-use Rattle.steps.specs.Lent.{atRows, atPlaces, flagsAtPlaces, atActive, atStripes, array-same}
+use Rattle.view.specs.Lent.{atRows, atPlaces, flagsAtPlaces, atActive, atStripes, array-same}
 use Rattle.steps.specs.Conflicts.{rowLockConflictOf, row-lock-of}
 use Rattle.steps.specs.Faults.{letters, letterAt, letters-say}
 

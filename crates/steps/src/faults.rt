@@ -3,9 +3,9 @@
 ghost use mathlib.Core.Path.{_≡_};
 ghost use Rattle.rules.specs.Faults.{faultAt, faultsOf};
 ghost use Rattle.steps.specs.Faults.{struckBy, letters};
-use super::lent::clipped;
 use types::Fault;
 use types::Schedule;
+use view::lent::clipped;
 
 // The first fault of the schedule at a step; letter 0 for none.
 pub fn fault_at(plan: Schedule, step: u32) -> Fault

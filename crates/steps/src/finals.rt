@@ -6,12 +6,12 @@ ghost use lib.ListN.{length};
 ghost use lib.Dec.{ltb};
 ghost use Rattle.rules.specs.Lists.{any};
 ghost use Rattle.rules.specs.Transaction.{finals};
-ghost use Rattle.steps.specs.First.{firstFrom};
+ghost use Rattle.view.specs.First.{firstFrom};
 ghost use Rattle.steps.specs.Finals.{ofRow, finalsLaid};
-use super::lent::clipped;
 use types::RowId;
 use types::Tx;
 use types::Write;
+use view::lent::clipped;
 
 // The final writes in list order: the first `count` places.
 pub struct Finals {

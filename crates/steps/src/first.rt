@@ -3,7 +3,7 @@
 ghost use mathlib.Core.Path.{_≡_};
 ghost use Rattle.rules.specs.Faults.{faultsOf};
 ghost use Rattle.rules.specs.Tests.{indexReadConflict, serializationConflict, writeBaseConflict};
-ghost use Rattle.steps.specs.Lent.{atRows, atPlaces, flagsAtPlaces, atActive, atStripes};
+ghost use Rattle.view.specs.Lent.{atRows, atPlaces, flagsAtPlaces, atActive, atStripes};
 ghost use Rattle.steps.specs.Conflicts.{rowLockConflictOf};
 ghost use Rattle.steps.specs.Faults.{letterAt};
 ghost use Rattle.steps.specs.Stops.{firstTrue, gateFrom, letterIn, openingTests, guardingTests, conflictTests, closingTests, gateTests};

@@ -1,12 +1,10 @@
 // What commit leaves of a transaction.
 
 ghost use mathlib.Core.Path.{_≡_};
-ghost use Rattle.types.specs.Zero.{onlyTxid};
 ghost use Rattle.rules.specs.Transaction.{noWrites, noAccesses, emptied};
 use types::IndexRead;
 use types::ReadRecord;
 use types::Tx;
-use types::Txid;
 use types::Write;
 
 // Writes alone emptied.
@@ -43,14 +41,5 @@ pub fn emptied(x: Tx) -> Tx
     y.index_conflict = false;
     y.savepoints = [0; Tx::SAVEPOINTS];
     y.savepoint_count = 0;
-    y
-}
-
-// All zero but for its txid.
-pub fn only_txid(t: Txid) -> Tx
-    ensures { λ y. ⌜ y ≡ onlyTxid (t .0) ⌝ }
-{
-    let mut y = Tx::zero();
-    y.txid = t;
     y
 }

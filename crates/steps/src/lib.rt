@@ -8,8 +8,6 @@ pub mod finals;
 pub mod first;
 pub mod gates;
 pub mod left;
-mod lent;
 mod logic;
-mod look;
 mod struck;
 pub mod tests;

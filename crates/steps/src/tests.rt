@@ -3,21 +3,21 @@
 ghost use mathlib.Core.Path.{_≡_};
 ghost use lib.ListN.{take};
 ghost use Rattle.rules.specs.Tests.{indexReadConflict, serializationConflict, writeBaseConflict};
-ghost use Rattle.steps.specs.Lent.{atRows, atPlaces, flagsAtPlaces, atActive, atStripes};
+ghost use Rattle.view.specs.Lent.{atRows, atPlaces, flagsAtPlaces, atActive, atStripes};
 ghost use Rattle.steps.specs.Conflicts.{rowLockConflictOf, readConflictOf};
 use super::finals::final_writes;
-use super::lent::clipped;
-use super::lent::head_of;
-use super::lent::stamp_at;
-use super::lent::txid_at;
-use super::look::in_snapshot;
-use super::look::locked_by_another;
 use types::ReadRecord;
 use types::RowId;
 use types::SlotPtr;
 use types::Store;
 use types::Tx;
 use types::Txid;
+use view::lent::clipped;
+use view::lent::head_of;
+use view::lent::stamp_at;
+use view::lent::txid_at;
+use view::locks::locked_by_another;
+use view::txids::in_snapshot;
 
 // 11: index_conflict is set or a recorded stamp differs.
 pub fn index_read_conflict(stamps: &[u64; Store::STRIPES], x: Tx) -> bool

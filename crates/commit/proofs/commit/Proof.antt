@@ -1,37 +1,47 @@
 -- `commit` meets its contract: refused before the steps, or what the steps answer.
+use mathlib.Core.Path.{sym, _∙_}
+use borrow.Author.Tests.{not-true, not-false}
 use Rattle.commit.specs.Tries.{tried-fit, tried-done, tried-refused}
 use borrow.Author.Needs.{needs}
 use Rattle.commit.proofs.commit.Statement.{statement}
 use Rattle.commit.proofs.commit.Tie as tie
 
-number-for-requires : tie.Need-number-for-requires
-number-for-requires c κs = search needs
+schedule-fit-requires : tie.Need-schedule-fit-requires
+schedule-fit-requires c κs = search needs
 
-said-by-requires : tie.Need-said-by-requires
-said-by-requires c κs = search needs
+admitted-requires : tie.Need-admitted-requires
+admitted-requires c κs = search needs
+
+is-done-requires : tie.Need-is-done-requires
+is-done-requires c κs = search needs
 
 unchanged-requires : tie.Need-unchanged-requires
 unchanged-requires c κs = search needs
 
 returns : tie.Need-returns
 returns c =
-    let s = c .before .before .before .before in
-    tried-refused (s .args .s) (s .args .x) (s .args .logged) (s .args .plan) (s .args .cut) (c .before .before .before .number-for .ensures) (c .before .before .if1 .taken) (c .before .said-by .ensures) (c .unchanged .ensures)
+    let d = c .before .before in
+    let s = d .before .before .before in
+    tried-refused (s .args .s) (s .args .x) (s .args .logged) (s .args .plan) (s .args .cut) (d .before .before .schedule-fit .ensures) (d .before .admitted .ensures) (sym (d .is-done .ensures) ∙ not-true _ (c .before .if1 .taken)) (c .unchanged .ensures)
 
 run-requires : tie.Need-run-requires
 run-requires c κs = search needs
 
 returns-2 : tie.Need-returns-2
 returns-2 c =
-    let s = c .before .before .before in
-    tried-done (s .args .s) (s .args .x) (s .args .logged) (s .args .plan) (s .args .cut) (c .before .before .number-for .ensures) (c .before .if1 .left) (c .run .ensures (tried-fit (s .args .s) (s .args .x) (s .args .logged) (s .args .plan) (s .args .cut) (c .before .before .number-for .ensures) (c .before .if1 .left)))
+    let d = c .before .before in
+    let s = d .before .before .before in
+    let done = sym (d .is-done .ensures) ∙ not-false _ (c .before .if1 .left) in
+    let fits = tried-fit (s .args .s) (s .args .x) (s .args .logged) (s .args .plan) (s .args .cut) (d .before .before .schedule-fit .ensures) (d .before .admitted .ensures) done in
+    tried-done (s .args .s) (s .args .x) (s .args .logged) (s .args .plan) (s .args .cut) (d .before .before .schedule-fit .ensures) (d .before .admitted .ensures) done (c .run .ensures fits)
 
 pub commit-spec : {M : Type 1} → statement M
 commit-spec =
     tie.close
     (tie.spec
-    number-for-requires
-    said-by-requires
+    schedule-fit-requires
+    admitted-requires
+    is-done-requires
     unchanged-requires
     returns
     run-requires

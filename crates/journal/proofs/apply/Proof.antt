@@ -25,17 +25,17 @@ puts-of a = a .before .before .args .j .now
 
 -- a turn makes one put more
 turn : (c : tie.In-loop Inv-loop μ-loop) (U : Store) → let a = c .before in
-    U ≡ apply (putAt (puts-of a) (a .loop .i)) (a .loop .t) → (a .loop .i + 1 ≤ a .before .within .result) × (U ≡ applyAll (puts (puts-of a) (a .loop .i + 1)) (a .before .before .args .s))
+    U ≡ apply (putAt (puts-of a) (a .loop .i)) (a .loop .t) → (a .loop .i + 1 ≤ a .before .clipped .result) × (U ≡ applyAll (puts (puts-of a) (a .loop .i + 1)) (a .before .before .args .s))
 turn c U e = (omega (arith, c .loop-test .taken), apply-more _ _ _ _ _ (c .before .loop .inv .1) e)
 
 -- the put is of the kind that the match found
 turn-of : (c : tie.In-loop Inv-loop μ-loop) (U : Store) {k : ℕ} → let a = c .before in let w = getD (puts-of a) (a .loop .i + a .loop .i) 0 in
     w / placeBase ≡ k → U ≡ apply (put k (w % placeBase) (low k (getD (puts-of a) (a .loop .i + a .loop .i + 1) 0))) (a .loop .t) →
-    (a .loop .i + 1 ≤ a .before .within .result) × (U ≡ applyAll (puts (puts-of a) (a .loop .i + 1)) (a .before .before .args .s))
+    (a .loop .i + 1 ≤ a .before .clipped .result) × (U ≡ applyAll (puts (puts-of a) (a .loop .i + 1)) (a .before .before .args .s))
 turn-of c U q e = turn c U (rw q e)
 
-within-requires : tie.Need-within-requires Inv-loop μ-loop
-within-requires c κs = search needs
+clipped-requires : tie.Need-clipped-requires Inv-loop μ-loop
+clipped-requires c κs = search needs
 
 loop-holds : tie.Need-loop-holds Inv-loop μ-loop
 loop-holds c = (omega arith, apply-none _ _)
@@ -262,7 +262,7 @@ loop-again-18 : tie.Need-loop-again-18 Inv-loop μ-loop
 loop-again-18 c = turn (c .before .before .before) _ (apply-other _ _ (c .match .rest))
 
 returns : tie.Need-returns Inv-loop μ-loop
-returns c = let e : c .before .loop .i ≡ min (c .before .before .before .args .n) putLimit = omega (arith, c .before .before .within .ensures) in rw e at (c .before .loop .inv .1)
+returns c = let e : c .before .loop .i ≡ min (c .before .before .before .args .n) putLimit = omega (arith, c .before .before .clipped .ensures) in rw e at (c .before .loop .inv .1)
 
 pub apply-spec : {M : Type 1} → statement M
 apply-spec =
@@ -270,7 +270,7 @@ apply-spec =
     (tie.spec
     Inv-loop
     μ-loop
-    within-requires
+    clipped-requires
     loop-holds
     add-word
     mul-word

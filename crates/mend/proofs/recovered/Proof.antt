@@ -1,5 +1,5 @@
 -- `recovered` meets its contract: each part is as its function makes it.
-use Rattle.admit.proofs.Lengths.{sized}
+use Rattle.view.proofs.Lengths.{sized}
 use Rattle.mend.specs.Whole.{whole}
 use borrow.Author.Needs.{needs}
 use Rattle.mend.proofs.recovered.Statement.{statement}

@@ -7,7 +7,7 @@ use borrow.Author.Needs.{needs}
 use borrow.Author.Tests.{leb-true, leb-false}
 use Rattle.types.specs.Limits.{activeLimit}
 use Rattle.rules.specs.Store.{activeInForm}
-use Rattle.admit.specs.Lent.{array}
+use Rattle.view.specs.Lent.{array}
 use Rattle.admit.specs.Active.{activeLeft, active-from, active-stop, active-low, active-high, active-pass, active-end}
 use Rattle.admit.proofs.active.active_in_form.Statement.{statement}
 use Rattle.admit.proofs.active.active_in_form.Tie as tie

@@ -1,20 +1,17 @@
--- `is_finished` meets its contract.
+-- `is_finished` meets its contract: the array has its length.
+use mathlib.Core.Path.{sym, ap, _∙_}
 use borrow.Author.Needs.{needs}
-use Rattle.admit.specs.Active.{finished-none, finished-doomed, finished-else}
+use Rattle.types.specs.Limits.{activeLimit}
+use Rattle.rules.specs.Admitted.{finished}
+use Rattle.view.specs.Lent.{array-same}
 use Rattle.admit.proofs.active.is_finished.Statement.{statement}
 use Rattle.admit.proofs.active.is_finished.Tie as tie
 
+is-finished-requires : tie.Need-is-finished-requires
+is-finished-requires c κs = search needs
+
 returns : tie.Need-returns
-returns c = finished-none _ _ _ (c .if1 .taken)
-
-returns-2 : tie.Need-returns-2
-returns-2 c = finished-doomed _ _ _ (c .before .if1 .left) (c .if2 .taken)
-
-listed-requires : tie.Need-listed-requires
-listed-requires c κs = search needs
-
-returns-3 : tie.Need-returns-3
-returns-3 c = finished-else _ _ _ _ (c .before .before .if1 .left) (c .before .if2 .left) (c .listed .ensures)
+returns c = c .is-finished .ensures ∙ ap (λ l. finished l (c .before .before .args .doomed) (c .before .before .args .t)) (sym (array-same activeLimit 0 _ (c .before .is-finished-arg .given .0)))
 
 pub is-finished-spec : {M : Type 1} → statement M
-is-finished-spec = tie.close (tie.spec returns returns-2 listed-requires returns-3)
+is-finished-spec = tie.close (tie.spec is-finished-requires returns)

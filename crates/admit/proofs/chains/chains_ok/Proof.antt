@@ -6,7 +6,7 @@ use borrow.Author.Needs.{needs}
 use borrow.Author.Tests.{not-true, not-false}
 use Rattle.types.specs.Limits.{rows}
 use Rattle.rules.specs.Lists.{all}
-use Rattle.admit.specs.Lent.{atRows}
+use Rattle.view.specs.Lent.{atRows}
 use Rattle.admit.specs.Versions.{chainAt}
 use Rattle.admit.specs.Scan.{allLeft, all-pass, all-fail, all-end}
 use Rattle.admit.proofs.chains.chains_ok.Statement.{statement}

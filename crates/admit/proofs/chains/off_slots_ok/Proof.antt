@@ -8,7 +8,7 @@ use borrow.Author.Tests.{not-true, not-false}
 use Rattle.types.specs.Limits.{places}
 use Rattle.rules.specs.Lists.{all}
 use Rattle.rules.specs.Store.{usedSlots}
-use Rattle.admit.specs.Lent.{atPlaces}
+use Rattle.view.specs.Lent.{atPlaces}
 use Rattle.admit.specs.Used.{offAt, usedLeft, used-free, used-pass, used-fail, used-end}
 use Rattle.admit.proofs.chains.off_slots_ok.Statement.{statement}
 use Rattle.admit.proofs.chains.off_slots_ok.Tie as tie

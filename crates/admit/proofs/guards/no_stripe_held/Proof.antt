@@ -1,58 +1,17 @@
--- `no_stripe_held` meets its contract: what is left from place i on decides as the whole does.
-use mathlib.Core.Path.{_≡_}
-use Prim.Native.Nat.{_+_, _-_, _<_, _≤_}
-use native.Mathlib.Omega.{arith}
-use Rattle.types.specs.Limits.{stripes}
-use Rattle.rules.specs.Lists.{allZero, isZero}
-use Rattle.admit.specs.Lent.{array}
-use Rattle.admit.specs.Scan.{allLeft, all-pass, all-fail, all-end}
-use Rattle.admit.specs.Facts.{zero-yes, zero-no}
+-- `no_stripe_held` meets its contract: the array has its length.
+use mathlib.Core.Path.{sym, ap, _∙_}
 use borrow.Author.Needs.{needs}
+use Rattle.types.specs.Limits.{stripes}
+use Rattle.rules.specs.Lists.{allZero}
+use Rattle.view.specs.Lent.{array-same}
 use Rattle.admit.proofs.guards.no_stripe_held.Statement.{statement}
 use Rattle.admit.proofs.guards.no_stripe_held.Tie as tie
 
-abbrev Inv-loop : tie.InvT-loop
-Inv-loop guards i₀ i = (i ≤ stripes) × (allLeft isZero stripes 0 guards i ≡ allZero (array stripes 0 guards))
+zeros-from-requires : tie.Need-zeros-from-requires
+zeros-from-requires c κs = search needs
 
-abbrev μ-loop : tie.MeasureT-loop
-μ-loop guards i₀ i = stripes - i
-
-loop-holds : tie.Need-loop-holds Inv-loop μ-loop
-unfolding allLeft
-loop-holds c = search needs
-
-mul-if1 : tie.Need-mul-if1 Inv-loop μ-loop
-mul-if1 c = search needs
-
-element-copy-out-if1 : tie.Need-element-copy-out-if1 Inv-loop μ-loop
-element-copy-out-if1 c = search needs
-
-returns : tie.Need-returns Inv-loop μ-loop
-returns c = all-fail _ _ _ _ _ _ (c .before .before .before .loop .inv .1) (omega arith) (zero-no (c .if1 .taken))
-
-add-i : tie.Need-add-i Inv-loop μ-loop
-add-i c = search needs
-
-loop-less : tie.Need-loop-less Inv-loop μ-loop
-loop-less c = search needs
-
-loop-again : tie.Need-loop-again Inv-loop μ-loop
-loop-again c = (omega arith, all-pass _ _ _ _ _ _ (c .before .before .before .loop .inv .1) (omega arith) (zero-yes (c .if1 .left)))
-
-returns-2 : tie.Need-returns-2 Inv-loop μ-loop
-returns-2 c = all-end _ _ _ _ _ _ (c .before .loop .inv .1) (omega arith)
+returns : tie.Need-returns
+returns c = c .zeros-from .ensures ∙ ap allZero (sym (array-same stripes 0 _ (c .before .zeros-from-arg .given .0)))
 
 pub no-stripe-held-spec : {M : Type 1} → statement M
-no-stripe-held-spec =
-    tie.close
-    (tie.spec
-    Inv-loop
-    μ-loop
-    loop-holds
-    mul-if1
-    element-copy-out-if1
-    returns
-    add-i
-    loop-less
-    loop-again
-    returns-2)
+no-stripe-held-spec = tie.close (tie.spec zeros-from-requires returns)

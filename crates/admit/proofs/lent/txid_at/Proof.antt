@@ -2,7 +2,7 @@
 use mathlib.Core.Path.{sym}
 use native.Mathlib.Omega.{arith}
 use borrow.Author.Needs.{needs}
-use Rattle.admit.specs.Lent.{array-at, array-past}
+use Rattle.view.specs.Lent.{array-at, array-past}
 use Rattle.admit.proofs.lent.txid_at.Statement.{statement}
 use Rattle.admit.proofs.lent.txid_at.Tie as tie
 

@@ -7,7 +7,7 @@ use borrow.Author.Tests.{not-true, not-false}
 use lib.ListN.{take}
 use Rattle.types.specs.Limits.{postingLimit}
 use Rattle.rules.specs.Lists.{all}
-use Rattle.admit.specs.Lent.{array}
+use Rattle.view.specs.Lent.{array}
 use Rattle.admit.specs.Posted.{toldAt}
 use Rattle.admit.specs.Scan.{firstLeft, first-pass, first-fail, first-none, first-out}
 use Rattle.admit.proofs.postings.each_told.Statement.{statement}

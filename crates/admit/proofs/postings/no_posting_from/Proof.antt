@@ -1,59 +1,18 @@
--- `no_posting_from` meets its contract: what is left from place i on decides as the whole does.
-use mathlib.Core.Path.{_≡_}
-use Prim.Native.Nat.{_+_, _-_, _<_}
-use native.Mathlib.Omega.{arith}
-use borrow.Author.Needs.{needs}
+-- `no_posting_from` meets its contract: the array has its length.
+use mathlib.Core.Path.{sym, ap, _∙_}
 use lib.ListN.{drop}
+use borrow.Author.Needs.{needs}
 use Rattle.types.specs.Limits.{postingLimit}
-use Rattle.rules.specs.Lists.{allZero, isZero}
-use Rattle.admit.specs.Lent.{array}
-use Rattle.admit.specs.Scan.{allLeft, all-pass, all-fail, all-end}
-use Rattle.admit.specs.Facts.{zero-yes, zero-no}
+use Rattle.rules.specs.Lists.{allZero}
+use Rattle.view.specs.Lent.{array-same}
 use Rattle.admit.proofs.postings.no_posting_from.Statement.{statement}
 use Rattle.admit.proofs.postings.no_posting_from.Tie as tie
 
-abbrev Inv-loop : tie.InvT-loop
-Inv-loop postings n i₀ i = allLeft isZero postingLimit 0 postings i ≡ allZero (drop n (array postingLimit 0 postings))
+zeros-from-requires : tie.Need-zeros-from-requires
+zeros-from-requires c κs = search needs
 
-abbrev μ-loop : tie.MeasureT-loop
-μ-loop postings n i₀ i = postingLimit - i
-
-loop-holds : tie.Need-loop-holds Inv-loop μ-loop
-unfolding allLeft
-loop-holds c = search needs
-
-mul-if1 : tie.Need-mul-if1 Inv-loop μ-loop
-mul-if1 c = search needs
-
-element-copy-out-if1 : tie.Need-element-copy-out-if1 Inv-loop μ-loop
-element-copy-out-if1 c = search needs
-
-returns : tie.Need-returns Inv-loop μ-loop
-returns c = all-fail _ _ _ _ _ _ (c .before .before .before .loop .inv) (omega arith) (zero-no (c .if1 .taken))
-
-add-i : tie.Need-add-i Inv-loop μ-loop
-add-i c = search needs
-
-loop-less : tie.Need-loop-less Inv-loop μ-loop
-loop-less c = search needs
-
-loop-again : tie.Need-loop-again Inv-loop μ-loop
-loop-again c = all-pass _ _ _ _ _ _ (c .before .before .before .loop .inv) (omega arith) (zero-yes (c .if1 .left))
-
-returns-2 : tie.Need-returns-2 Inv-loop μ-loop
-returns-2 c = all-end _ _ _ _ _ _ (c .before .loop .inv) (omega arith)
+returns : tie.Need-returns
+returns c = c .zeros-from .ensures ∙ ap (λ l. allZero (drop (c .before .before .args .n) l)) (sym (array-same postingLimit 0 _ (c .before .zeros-from-arg .given .0)))
 
 pub no-posting-from-spec : {M : Type 1} → statement M
-no-posting-from-spec =
-    tie.close
-    (tie.spec
-    Inv-loop
-    μ-loop
-    loop-holds
-    mul-if1
-    element-copy-out-if1
-    returns
-    add-i
-    loop-less
-    loop-again
-    returns-2)
+no-posting-from-spec = tie.close (tie.spec zeros-from-requires returns)

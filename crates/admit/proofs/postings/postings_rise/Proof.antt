@@ -7,7 +7,7 @@ use borrow.Author.Needs.{needs}
 use borrow.Author.Tests.{lt-ltb, le-ltb}
 use lib.ListN.{take}
 use Rattle.types.specs.Limits.{postingLimit}
-use Rattle.admit.specs.Lent.{array}
+use Rattle.view.specs.Lent.{array}
 use Rattle.admit.specs.Climb.{climb, climbLeft, climb-end, climb-low, climb-fails, climb-pass}
 use Rattle.admit.specs.Posted.{keyed}
 use Rattle.admit.proofs.postings.postings_rise.Statement.{statement}

@@ -9,7 +9,7 @@ use borrow.Author.Needs.{needs}
 use lib.ListN.{length, getD}
 use Rattle.types.specs.Limits.{rows}
 use Rattle.rules.specs.Lists.{those}
-use Rattle.admit.specs.Lent.{atRows, flagsAtPlaces}
+use Rattle.view.specs.Lent.{atRows, flagsAtPlaces}
 use Rattle.admit.specs.Scan.{countLeft, count-yes, count-no, count-end}
 use Rattle.admit.proofs.postings.valued.Statement.{statement}
 use Rattle.admit.proofs.postings.valued.Tie as tie

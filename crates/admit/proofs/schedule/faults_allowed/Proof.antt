@@ -9,7 +9,7 @@ use Rattle.types.specs.Limits.{faultLimit}
 use Rattle.types.specs.Zero.{noFault}
 use Rattle.rules.specs.Lists.{all}
 use Rattle.rules.specs.Faults.{allowed}
-use Rattle.admit.specs.Lent.{array}
+use Rattle.view.specs.Lent.{array}
 use Rattle.admit.specs.Scan.{firstLeft, first-pass, first-fail, first-none}
 use Rattle.admit.proofs.schedule.faults_allowed.Statement.{statement}
 use Rattle.admit.proofs.schedule.faults_allowed.Tie as tie

@@ -7,16 +7,17 @@ use lib.ListN.{take}
 use Rattle.types.specs.Limits.{faultLimit}
 use Rattle.types.specs.Zero.{noFault}
 use Rattle.rules.specs.Faults.{faultsOf}
-use Rattle.admit.specs.Lent.{array, first-some, first-all}
+use Rattle.view.specs.Lent.{array}
+use Rattle.admit.specs.Firsts.{first-some, first-all}
 use Rattle.admit.specs.Fits.{schedule-unfit, schedule-apart}
-use Rattle.admit.proofs.Lengths.{sized-schedule}
+use Rattle.view.proofs.Lengths.{faults-long}
 use Rattle.admit.proofs.schedule.schedule_fit.Statement.{statement}
 use Rattle.admit.proofs.schedule.schedule_fit.Tie as tie
 
 -- the faults that are tested are those of the schedule
 firsts : (c : tie.Joined1) → take (c .if1 .n) (array faultLimit noFault (c .before .before .args .c .faults)) ≡ faultsOf (c .before .before .args .c)
 firsts c =
-    let long = sized-schedule (c .before .before .args .c) (c .before .before .good .0) in
+    let long = faults-long (c .before .before .args .c) (c .before .before .good .0) in
     ⊎-elim
     (λ w. first-all (c .if1 .n) (c .before .before .args .c .count) faultLimit noFault (c .before .before .args .c .faults) long (w .1) (w .0 .taken))
     (λ w. first-some (c .if1 .n) (c .before .before .args .c .count) faultLimit noFault (c .before .before .args .c .faults) long (w .1))

@@ -9,7 +9,7 @@ use Rattle.types.specs.Limits.{faultLimit}
 use Rattle.types.specs.Zero.{noFault}
 use Rattle.rules.specs.Faults.{stepsApart}
 use Rattle.admit.specs.Allowed.{stepsDiffer, steps-apart}
-use Rattle.admit.specs.Lent.{array}
+use Rattle.view.specs.Lent.{array}
 use Rattle.admit.specs.Apart.{apartLeft, apart-pass, apart-fail, apart-end}
 use Rattle.admit.proofs.schedule.steps_apart.Statement.{statement}
 use Rattle.admit.proofs.schedule.steps_apart.Tie as tie

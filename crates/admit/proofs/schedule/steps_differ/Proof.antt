@@ -7,7 +7,7 @@ use lib.ListN.{getD, take, drop}
 use Rattle.types.specs.Limits.{faultLimit}
 use Rattle.types.specs.Zero.{noFault}
 use Rattle.rules.specs.Lists.{all}
-use Rattle.admit.specs.Lent.{array}
+use Rattle.view.specs.Lent.{array}
 use Rattle.admit.specs.Allowed.{stepsDiffer}
 use Rattle.admit.specs.Facts.{differ-yes, differ-no}
 use Rattle.admit.specs.Scan.{firstLeft, first-pass, first-fail, first-none}

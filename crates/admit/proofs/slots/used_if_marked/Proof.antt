@@ -7,7 +7,7 @@ use borrow.Author.Needs.{needs}
 use borrow.Author.Tests.{not-true, not-false}
 use Rattle.types.specs.Limits.{places}
 use Rattle.rules.specs.Lists.{eachOr, isZero, nonzero}
-use Rattle.admit.specs.Lent.{atPlaces}
+use Rattle.view.specs.Lent.{atPlaces}
 use Rattle.admit.specs.Scan.{eachLeft, each-first, each-second, each-fail, each-end}
 use Rattle.admit.specs.Facts.{nonzero-yes, nonzero-no}
 use Rattle.admit.proofs.slots.used_if_marked.Statement.{statement}

@@ -7,7 +7,7 @@ use borrow.Author.Tests.{le-ltb, lt-ltb}
 use Rattle.types.specs.Limits.{places}
 use lib.Dec.{ltb}
 use Rattle.rules.specs.Lists.{all}
-use Rattle.admit.specs.Lent.{atPlaces}
+use Rattle.view.specs.Lent.{atPlaces}
 use Rattle.admit.specs.Scan.{allLeft, all-pass, all-fail, all-end}
 use Rattle.admit.proofs.slots.xmins_below.Statement.{statement}
 use Rattle.admit.proofs.slots.xmins_below.Tie as tie

@@ -2,7 +2,7 @@
 use mathlib.Core.Path.{_∙_}
 use borrow.Author.Needs.{needs}
 use Rattle.admit.specs.Lending.{lent-repairable}
-use Rattle.admit.proofs.Lengths.{sized}
+use Rattle.view.proofs.Lengths.{sized}
 use Rattle.admit.proofs.store.repairable.Statement.{statement}
 use Rattle.admit.proofs.store.repairable.Tie as tie
 

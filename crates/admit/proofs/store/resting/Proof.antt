@@ -1,16 +1,13 @@
--- `resting` meets its contract: lent whole, the store is judged as it stands.
-use mathlib.Core.Path.{_∙_}
+-- `resting` meets its contract.
 use borrow.Author.Needs.{needs}
-use Rattle.admit.specs.Lending.{lent-resting}
-use Rattle.admit.proofs.Lengths.{sized}
 use Rattle.admit.proofs.store.resting.Statement.{statement}
 use Rattle.admit.proofs.store.resting.Tie as tie
 
-resting-of-requires : tie.Need-resting-of-requires
-resting-of-requires c κs = search needs
+resting-marked-requires : tie.Need-resting-marked-requires
+resting-marked-requires c κs = search needs
 
 returns : tie.Need-returns
-returns c = c .resting-of .ensures .0 ∙ lent-resting (c .before .before .before .before .before .before .before .before .before .before .before .before .before .before .before .args .t1) (sized (c .before .before .before .before .before .before .before .before .before .before .before .before .before .before .before .args .t1) (c .before .before .before .before .before .before .before .before .before .before .before .before .before .before .before .good .0))
+returns c = c .resting-marked .ensures .0
 
 pub resting-spec : {M : Type 1} → statement M
-resting-spec = tie.close (tie.spec resting-of-requires returns)
+resting-spec = tie.close (tie.spec resting-marked-requires returns)

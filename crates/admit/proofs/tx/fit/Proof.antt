@@ -3,7 +3,7 @@ use mathlib.Core.Path.{ap, _∙_}
 use borrow.Author.Needs.{needs}
 use Rattle.rules.specs.Chains.{Walk}
 use Rattle.admit.specs.Fits.{fit-by}
-use Rattle.admit.proofs.Lengths.{sized}
+use Rattle.view.proofs.Lengths.{sized}
 use Rattle.admit.proofs.tx.fit.Statement.{statement}
 use Rattle.admit.proofs.tx.fit.Tie as tie
 

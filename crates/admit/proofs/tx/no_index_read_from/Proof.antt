@@ -7,7 +7,7 @@ use lib.ListN.{drop}
 use Rattle.types.specs.Limits.{indexReadLimit}
 use Rattle.types.specs.Zero.{noIndexRead}
 use Rattle.rules.specs.Lists.{all}
-use Rattle.admit.specs.Lent.{array}
+use Rattle.view.specs.Lent.{array}
 use Rattle.admit.specs.Scan.{allLeft, all-pass, all-fail, all-end}
 use Rattle.admit.specs.Fitting.{zeroIndexRead, stripe-set, stamp-set, index-read-unset}
 use Rattle.admit.proofs.tx.no_index_read_from.Statement.{statement}

@@ -7,7 +7,7 @@ use lib.ListN.{drop}
 use Rattle.types.specs.Limits.{readLimit}
 use Rattle.types.specs.Zero.{noRead}
 use Rattle.rules.specs.Lists.{all}
-use Rattle.admit.specs.Lent.{array}
+use Rattle.view.specs.Lent.{array}
 use Rattle.admit.specs.Scan.{allLeft, all-pass, all-fail, all-end}
 use Rattle.admit.specs.Fitting.{zeroRead, read-row-set, read-ptr-set, read-xmin-set, read-unset}
 use Rattle.admit.proofs.tx.no_read_from.Statement.{statement}

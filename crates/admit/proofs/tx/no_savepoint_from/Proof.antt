@@ -6,7 +6,7 @@ use borrow.Author.Needs.{needs}
 use lib.ListN.{drop}
 use Rattle.types.specs.Limits.{savepointLimit}
 use Rattle.rules.specs.Lists.{allZero, isZero}
-use Rattle.admit.specs.Lent.{array}
+use Rattle.view.specs.Lent.{array}
 use Rattle.admit.specs.Scan.{allLeft, all-pass, all-fail, all-end}
 use Rattle.admit.specs.Facts.{zero-yes, zero-no}
 use Rattle.admit.proofs.tx.no_savepoint_from.Statement.{statement}

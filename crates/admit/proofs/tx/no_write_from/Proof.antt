@@ -7,7 +7,7 @@ use lib.ListN.{drop}
 use Rattle.types.specs.Limits.{writeLimit}
 use Rattle.types.specs.Zero.{noWrite}
 use Rattle.rules.specs.Lists.{all}
-use Rattle.admit.specs.Lent.{array}
+use Rattle.view.specs.Lent.{array}
 use Rattle.admit.specs.Scan.{allLeft, all-pass, all-fail, all-end}
 use Rattle.admit.specs.Fitting.{zeroWrite, write-row-set, write-base-set, write-new-set, write-unset}
 use Rattle.admit.proofs.tx.no_write_from.Statement.{statement}

@@ -8,7 +8,7 @@ use Rattle.types.specs.Limits.{readLimit}
 use Rattle.types.specs.Zero.{noRead}
 use Rattle.rules.specs.Lists.{all}
 use Rattle.rules.specs.Fit.{readFit}
-use Rattle.admit.specs.Lent.{array}
+use Rattle.view.specs.Lent.{array}
 use Rattle.admit.specs.Scan.{firstLeft, first-pass, first-fail, first-none}
 use Rattle.admit.specs.Fitting.{read-row, read-low, read-high, read-fits}
 use Rattle.admit.proofs.tx.reads_fit.Statement.{statement}

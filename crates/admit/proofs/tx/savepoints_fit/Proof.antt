@@ -7,7 +7,7 @@ use borrow.Author.Tests.{le-leb, lt-leb}
 use lib.ListN.{take}
 use Rattle.types.specs.Limits.{savepointLimit}
 use lib.Dec.{leb}
-use Rattle.admit.specs.Lent.{array}
+use Rattle.view.specs.Lent.{array}
 use Rattle.admit.specs.Climb.{climb, climbLeft, climb-end, climb-low, climb-fails, climb-pass}
 use Rattle.admit.proofs.tx.savepoints_fit.Statement.{statement}
 use Rattle.admit.proofs.tx.savepoints_fit.Tie as tie

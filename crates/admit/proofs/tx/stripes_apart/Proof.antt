@@ -8,7 +8,7 @@ use lib.ListN.{take}
 use Rattle.types.specs.Limits.{indexReadLimit}
 use Rattle.types.specs.Zero.{noIndexRead}
 use Rattle.rules.specs.Fit.{stripesApart}
-use Rattle.admit.specs.Lent.{array}
+use Rattle.view.specs.Lent.{array}
 use Rattle.admit.specs.Fitting.{stripesLeft, stripes-end, stripes-high, stripes-twice, stripes-pass}
 use Rattle.admit.proofs.tx.stripes_apart.Statement.{statement}
 use Rattle.admit.proofs.tx.stripes_apart.Tie as tie

@@ -9,7 +9,7 @@ use Rattle.types.specs.Limits.{writeLimit}
 use Rattle.types.specs.Zero.{noWrite}
 use Rattle.rules.specs.Fit.{writesApart}
 use Rattle.admit.specs.Fitting.{writesDiffer, writes-apart}
-use Rattle.admit.specs.Lent.{array}
+use Rattle.view.specs.Lent.{array}
 use Rattle.admit.specs.Apart.{apartLeft, apart-pass, apart-fail, apart-end}
 use Rattle.admit.proofs.tx.writes_apart.Statement.{statement}
 use Rattle.admit.proofs.tx.writes_apart.Tie as tie

@@ -8,7 +8,7 @@ use lib.ListN.{getD, take, drop}
 use Rattle.types.specs.Limits.{writeLimit}
 use Rattle.types.specs.Zero.{noWrite}
 use Rattle.rules.specs.Lists.{all}
-use Rattle.admit.specs.Lent.{array}
+use Rattle.view.specs.Lent.{array}
 use Rattle.admit.specs.Fitting.{writesDiffer, same-new, other-base, other-row, same-base}
 use Rattle.admit.specs.Scan.{firstLeft, first-pass, first-fail, first-none}
 use Rattle.admit.proofs.tx.writes_differ.Statement.{statement}

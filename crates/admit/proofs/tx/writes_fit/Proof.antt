@@ -8,7 +8,7 @@ use lib.ListN.{take}
 use Rattle.types.specs.Limits.{writeLimit}
 use Rattle.types.specs.Zero.{noWrite}
 use Rattle.rules.specs.Lists.{all}
-use Rattle.admit.specs.Lent.{array}
+use Rattle.view.specs.Lent.{array}
 use Rattle.admit.specs.Scan.{firstLeft, first-pass, first-fail, first-none}
 use Rattle.admit.specs.Fitting.{writeAt}
 use Rattle.admit.proofs.tx.writes_fit.Statement.{statement}

@@ -10,7 +10,7 @@ use borrow.Author.Tests.{ltb-true, ltb-false, eqb-true, eqb-false, not-true, not
 use lib.ListN.{drop, length}
 use Rattle.types.specs.Limits.{rows, places, noMarks}
 use Rattle.rules.specs.Chains.{Walk, walk, walkRow, walkRows}
-use Rattle.admit.specs.Lent.{atRows, atPlaces, array-length, array-at}
+use Rattle.view.specs.Lent.{atRows, atPlaces, array-length, array-at}
 use Rattle.admit.specs.Walked.{after, row-end, row-out, row-high, row-twice, row-step, rows-end, rows-cons, after-end, after-stop}
 use Rattle.admit.proofs.walk.walk_all.Statement.{statement}
 use Rattle.admit.proofs.walk.walk_all.Tie as tie

@@ -5,8 +5,8 @@ use native.Mathlib.Omega.{arith}
 use Rattle.journal.specs.Adds.{adds-all}
 use Rattle.journal.specs.Applied.{apply-held}
 use Rattle.types.specs.Limits.{places}
-use Rattle.admit.proofs.Lengths.{sized}
-use Rattle.look.specs.Lent.{array-length, atRows, atPlaces}
+use Rattle.view.proofs.Lengths.{sized}
+use Rattle.view.specs.Lent.{array-length, atRows, atPlaces}
 use Rattle.calls.specs.Abort.{abort-few, abort-refused, abort-done}
 use borrow.Author.Needs.{needs}
 use Rattle.calls.proofs.abort.abort.Statement.{statement}

@@ -2,8 +2,8 @@
 use Prim.Native.Nat.{_≤_, _-_}
 use native.Mathlib.Omega.{arith}
 use Rattle.types.specs.Limits.{places}
-use Rattle.look.specs.Lent.{atPlaces}
-use Rattle.calls.specs.Pushes.{Pushing, pushing-start, pushing-end}
+use Rattle.view.specs.Lent.{atPlaces}
+use Rattle.journal.specs.Pushing.{Pushing, pushing-start, pushing-end}
 use Rattle.calls.specs.Abort.{ownFrees, frees-end, push-own, pass-other, pass-unused}
 use borrow.Author.Needs.{needs}
 use Rattle.calls.proofs.abort.push_own.Statement.{statement}

@@ -1,7 +1,7 @@
 -- `read` meets its contract, as its tests find it.
 use mathlib.Core.Path.{sym, _∙_}
 use borrow.Author.Tests.{not-true, not-false}
-use Rattle.admit.proofs.Lengths.{sized}
+use Rattle.view.proofs.Lengths.{sized}
 use Rattle.calls.specs.Read.{read-refused, read-done}
 use borrow.Author.Needs.{needs}
 use Rattle.calls.proofs.read.read.Statement.{statement}

@@ -10,11 +10,11 @@ enum-told c = search needs
 enum-known-cut : tie.Need-enum-known-cut
 enum-known-cut c = search needs
 
-cast-within : tie.Need-cast-within
-cast-within c = search needs
+cast-clipped : tie.Need-cast-clipped
+cast-clipped c = search needs
 
-within-requires : tie.Need-within-requires
-within-requires c κs = search needs
+clipped-requires : tie.Need-clipped-requires
+clipped-requires c κs = search needs
 
 returns : tie.Need-returns
 unfolding stopAt
@@ -22,7 +22,7 @@ returns c = rw (c .enum-told .given .1)
 
 returns-2 : tie.Need-returns-2
 unfolding stopAt
-returns-2 c = rw (c .before .before .cut .given .1) (c .within .ensures)
+returns-2 c = rw (c .before .before .cut .given .1) (c .clipped .ensures)
 
 pub stop-at-spec : {M : Type 1} → statement M
 stop-at-spec =
@@ -30,7 +30,7 @@ stop-at-spec =
     (tie.spec
     enum-told
     enum-known-cut
-    cast-within
-    within-requires
+    cast-clipped
+    clipped-requires
     returns
     returns-2)

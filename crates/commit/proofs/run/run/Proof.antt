@@ -1,6 +1,6 @@
 -- `run` meets its contract: the journal holds the stores of the run, as many are applied as the cut leaves, and the gate says how it ended.
 use mathlib.Core.Path.{refl}
-use Rattle.admit.proofs.Lengths.{sized}
+use Rattle.view.proofs.Lengths.{sized}
 use Rattle.steps.specs.Stops.{gate-of}
 use Rattle.commit.specs.Planning.{run-pushed}
 use Rattle.commit.specs.Run.{run-cut, run-whole}

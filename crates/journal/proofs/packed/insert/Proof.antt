@@ -6,8 +6,8 @@ use borrow.Author.Needs.{needs}
 use Rattle.journal.proofs.packed.insert.Statement.{statement}
 use Rattle.journal.proofs.packed.insert.Tie as tie
 
-within-requires : tie.Need-within-requires
-within-requires c κs = search needs
+clipped-requires : tie.Need-clipped-requires
+clipped-requires c κs = search needs
 
 seek-requires : tie.Need-seek-requires
 seek-requires c κs = search needs
@@ -25,10 +25,10 @@ same-length : tie.Need-same-length
 same-length c = search needs
 
 returns : tie.Need-returns
-returns c = let w = c .before .before .before .before .before .before .before .before .before in let s = w .before .before .args in insert-there (s .v) (s .n) (w .within .result) (c .before .before .before .before .before .before .before .seek .result) (s .x .now) (w .within .ensures) (c .before .before .before .before .before .before .before .seek .ensures) (omega arith) (c .before .before .before .before .if2 .taken) (c .before .before .clear .ensures)
+returns c = let w = c .before .before .before .before .before .before .before .before .before in let s = w .before .before .args in insert-there (s .v) (s .n) (w .clipped .result) (c .before .before .before .before .before .before .before .seek .result) (s .x .now) (w .clipped .ensures) (c .before .before .before .before .before .before .before .seek .ensures) (omega arith) (c .before .before .before .before .if2 .taken) (c .before .before .clear .ensures)
 
 shift-requires : tie.Need-shift-requires
-shift-requires c κs = let w = c .before .before .before .before in let s = w .before .before .args in (place-within (s .v) (s .n) (w .within .result) (c .before .before .seek .result) (s .x .now) (w .within .ensures) (c .before .before .seek .ensures), omega arith)
+shift-requires c κs = let w = c .before .before .before .before in let s = w .before .before .args in (place-within (s .v) (s .n) (w .clipped .result) (c .before .before .seek .result) (s .x .now) (w .clipped .ensures) (c .before .before .seek .ensures), omega arith)
 
 add-result : tie.Need-add-result
 add-result c = search needs
@@ -37,13 +37,13 @@ same-length-2 : tie.Need-same-length-2
 same-length-2 c = search needs
 
 returns-2 : tie.Need-returns-2
-returns-2 c = let w = c .before .before .before .before .before .before .before in let s = w .before .before .args in insert-new (s .v) (s .n) (w .within .result) (c .before .before .before .before .before .seek .result) (s .x .now) (w .within .ensures) (c .before .before .before .before .before .seek .ensures) (⊎-elim (λ o _. o .2 .left) (λ o h. absurd (omega arith)) (c .before .before .before .before .if1 .came)) (c .before .before .shift .ensures)
+returns-2 c = let w = c .before .before .before .before .before .before .before in let s = w .before .before .args in insert-new (s .v) (s .n) (w .clipped .result) (c .before .before .before .before .before .seek .result) (s .x .now) (w .clipped .ensures) (c .before .before .before .before .before .seek .ensures) (⊎-elim (λ o _. o .2 .left) (λ o h. absurd (omega arith)) (c .before .before .before .before .if1 .came)) (c .before .before .shift .ensures)
 
 pub insert-spec : {M : Type 1} → statement M
 insert-spec =
     tie.close
     (tie.spec
-    within-requires
+    clipped-requires
     seek-requires
     mul-if2
     slice-read-if2

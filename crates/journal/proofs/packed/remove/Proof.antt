@@ -18,8 +18,8 @@ Inv-loop x₀ n v m kept₀ i₀ x kept i = (kept ≤ i) × (i ≤ m) × (length
 abbrev μ-loop : tie.MeasureT-loop
 μ-loop x₀ n v m kept₀ i₀ x kept i = m - i
 
-within-requires : tie.Need-within-requires Inv-loop μ-loop
-within-requires c κs = search needs
+clipped-requires : tie.Need-clipped-requires Inv-loop μ-loop
+clipped-requires c κs = search needs
 
 loop-holds : tie.Need-loop-holds Inv-loop μ-loop
 loop-holds c = search needs
@@ -46,13 +46,13 @@ loop-less : tie.Need-loop-less Inv-loop μ-loop
 loop-less c = search needs
 
 loop-again : tie.Need-loop-again Inv-loop μ-loop
-loop-again c = let a = c .before .before .before in (omega arith, omega arith, simp length-set (a .loop .inv .2), keep-turn (a .before .before .before .args .v) (a .loop .x) (a .loop .kept) (a .loop .i) (a .before .within .result) (omega arith) (omega arith) (omega arith) (c .if1 .taken) ∙ a .loop .inv .3)
+loop-again c = let a = c .before .before .before in (omega arith, omega arith, simp length-set (a .loop .inv .2), keep-turn (a .before .before .before .args .v) (a .loop .x) (a .loop .kept) (a .loop .i) (a .before .clipped .result) (omega arith) (omega arith) (omega arith) (c .if1 .taken) ∙ a .loop .inv .3)
 
 loop-less-2 : tie.Need-loop-less-2 Inv-loop μ-loop
 loop-less-2 c = search needs
 
 loop-again-2 : tie.Need-loop-again-2 Inv-loop μ-loop
-loop-again-2 c = let a = c .before .before .before in (omega arith, omega arith, a .loop .inv .2, skip-turn (a .before .before .before .args .v) (a .loop .x) (a .loop .kept) (a .loop .i) (a .before .within .result) (omega arith) (omega arith) (omega arith) (c .if1 .left) ∙ a .loop .inv .3)
+loop-again-2 c = let a = c .before .before .before in (omega arith, omega arith, a .loop .inv .2, skip-turn (a .before .before .before .args .v) (a .loop .x) (a .loop .kept) (a .loop .i) (a .before .clipped .result) (omega arith) (omega arith) (omega arith) (c .if1 .left) ∙ a .loop .inv .3)
 
 clear-requires : tie.Need-clear-requires Inv-loop μ-loop
 clear-requires c κs = search needs
@@ -61,7 +61,7 @@ same-length : tie.Need-same-length Inv-loop μ-loop
 same-length c = c .before .before .clear .kept .0 ∙ c .before .before .before .before .before .loop .inv .2
 
 returns : tie.Need-returns Inv-loop μ-loop
-returns c = let a = c .before .before .before .before .before in let s = a .before .before .before .args in packed-first _ (a .loop .x) (a .loop .kept) _ (removed (s .v) (a .loop .x) (a .loop .kept) (a .loop .i) (a .before .within .result) (omega arith) (a .loop .inv .3) ∙ ap (without (s .v)) (take-within (s .n) (a .before .within .result) (s .x .now) (a .before .within .ensures))) (omega arith) (a .loop .inv .2) (c .before .before .clear .ensures)
+returns c = let a = c .before .before .before .before .before in let s = a .before .before .before .args in packed-first _ (a .loop .x) (a .loop .kept) _ (removed (s .v) (a .loop .x) (a .loop .kept) (a .loop .i) (a .before .clipped .result) (omega arith) (a .loop .inv .3) ∙ ap (without (s .v)) (take-within (s .n) (a .before .clipped .result) (s .x .now) (a .before .clipped .ensures))) (omega arith) (a .loop .inv .2) (c .before .before .clear .ensures)
 
 pub remove-spec : {M : Type 1} → statement M
 remove-spec =
@@ -69,7 +69,7 @@ remove-spec =
     (tie.spec
     Inv-loop
     μ-loop
-    within-requires
+    clipped-requires
     loop-holds
     mul-y
     slice-read-y

@@ -7,8 +7,8 @@ use lib.ListN.{length, getD}
 use borrow.Author.Needs.{needs}
 use Rattle.types.specs.Limits.{activeLimit}
 use Rattle.rules.specs.Store.{activeTxids}
-use Rattle.look.specs.Lent.{atActive}
-use Rattle.look.specs.Active.{activeFrom, active-end, active-zero, active-next}
+use Rattle.view.specs.Lent.{atActive}
+use Rattle.view.specs.Active.{activeFrom, active-end, active-zero, active-next}
 use Rattle.look.proofs.active.active_count.Statement.{statement}
 use Rattle.look.proofs.active.active_count.Tie as tie
 

@@ -3,7 +3,7 @@ use mathlib.Core.Path.{sym, ap}
 use native.Mathlib.Omega.{arith}
 use lib.ListN.{getD}
 use borrow.Author.Needs.{needs}
-use Rattle.look.specs.Active.{activeFrom, active-zero, active-next}
+use Rattle.view.specs.Active.{activeFrom, active-zero, active-next}
 use Rattle.look.proofs.active.oldest_active.Statement.{statement}
 use Rattle.look.proofs.active.oldest_active.Tie as tie
 

@@ -1,6 +1,6 @@
 -- `candidates` meets its contract: the rows of own writes are marked after those of postings.
 use borrow.Author.Needs.{needs}
-use Rattle.look.specs.Lent.{atPostings}
+use Rattle.view.specs.Lent.{atPostings}
 use Rattle.look.specs.Candidates.{candidate-marks}
 use Rattle.look.proofs.candidates.candidates.Statement.{statement}
 use Rattle.look.proofs.candidates.candidates.Tie as tie

@@ -7,10 +7,10 @@ use borrow.Author.Needs.{needs}
 use Rattle.types.specs.Limits.{rows, writeLimit}
 use Rattle.types.specs.Zero.{noWrite}
 use Rattle.rules.specs.Transaction.{writesOf}
-use Rattle.look.specs.First.{firstFrom, first-next, first-end}
-use Rattle.look.specs.Marks.{markAll}
+use Rattle.view.specs.First.{firstFrom, first-next, first-end}
+use Rattle.view.specs.Marks.{markAll}
 use Rattle.look.specs.Candidates.{ownRows, own-row, own-high}
-use Rattle.look.proofs.Long.{writes-long}
+use Rattle.view.proofs.Lengths.{writes-long}
 use Rattle.look.proofs.candidates.own_rows.Statement.{statement}
 use Rattle.look.proofs.candidates.own_rows.Tie as tie
 

@@ -4,9 +4,10 @@ use Prim.Native.Nat.{_-_, _≤_, min}
 use native.Mathlib.Omega.{arith}
 use borrow.Author.Needs.{needs}
 use Rattle.types.specs.Limits.{postingLimit}
-use Rattle.look.specs.Lent.{atPostings}
-use Rattle.look.specs.First.{firstFrom, lent-next, lent-end}
-use Rattle.look.specs.Marks.{markAll, noRows}
+use Rattle.view.specs.Lent.{atPostings}
+use Rattle.view.specs.First.{firstFrom, lent-next, lent-end}
+use Rattle.view.specs.Marks.{markAll}
+use Rattle.look.specs.Marks.{noRows}
 use Rattle.look.specs.Candidates.{rowsOfKey, postedRows, posting-of, posting-not}
 use Rattle.look.proofs.candidates.posted_rows.Statement.{statement}
 use Rattle.look.proofs.candidates.posted_rows.Tie as tie

@@ -4,10 +4,10 @@ use Prim.Native.Nat.{_≤_}
 use native.Mathlib.Omega.{arith}
 use borrow.Author.Needs.{needs}
 use Rattle.types.specs.Limits.{places}
-use Rattle.look.specs.Lent.{atPlaces}
+use Rattle.view.specs.Lent.{atPlaces}
 use Rattle.look.specs.Sight.{sees-by}
 use Rattle.look.specs.Chain.{visibleFrom, visible-whole, visible-out, visible-end, visible-here, visible-next}
-use Rattle.look.proofs.Long.{snapshot-long}
+use Rattle.view.proofs.Lengths.{snapshot-long}
 use Rattle.look.proofs.chain.visible_version.Statement.{statement}
 use Rattle.look.proofs.chain.visible_version.Tie as tie
 

@@ -7,8 +7,8 @@ use borrow.Author.Needs.{needs}
 use Rattle.types.specs.Limits.{writeLimit}
 use Rattle.types.specs.Zero.{noWrite}
 use Rattle.rules.specs.Lists.{pad}
-use Rattle.look.specs.Pad.{pad-more, more-count, more-room, more-over}
-use Rattle.look.proofs.Long.{writes-long}
+use Rattle.view.specs.Pad.{pad-more, more-count, more-room, more-over}
+use Rattle.view.proofs.Lengths.{writes-long}
 use Rattle.look.proofs.changed.with_write.Statement.{statement}
 use Rattle.look.proofs.changed.with_write.Tie as tie
 

@@ -3,7 +3,7 @@ use Prim.Native.Nat.{_-_, _≤_}
 use native.Mathlib.Omega.{arith}
 use borrow.Author.Needs.{needs}
 use Rattle.types.specs.Limits.{rows}
-use Rattle.look.specs.Lent.{atRows, atPlaces, flagsAtPlaces, flagsAtRows}
+use Rattle.view.specs.Lent.{atRows, atPlaces, flagsAtPlaces, flagsAtRows}
 use Rattle.look.specs.Marks.{markedRows, markedAt, marked-whole, marked-end, marked-yes, marked-no}
 use Rattle.look.specs.Lookup.{matchingOf}
 use Rattle.look.specs.Rows.{Finding, none-found, not-found, found-one, all-found, matches-none, matches-yes, matches-not}

@@ -7,7 +7,7 @@ use borrow.Author.Needs.{needs}
 use Rattle.types.specs.Limits.{rows}
 use Rattle.rules.specs.Types.{ReadRecord}
 use Rattle.rules.specs.Transaction.{readsOf}
-use Rattle.look.specs.Lent.{atRows, atPlaces, flagsAtRows}
+use Rattle.view.specs.Lent.{atRows, atPlaces, flagsAtRows}
 use Rattle.look.specs.Marks.{markedRows, markedAt, marked-whole, marked-end, marked-yes, marked-no}
 use Rattle.look.specs.Reads.{laid, recordReadOf}
 use Rattle.look.specs.Lookup.{recordReadsOf, records-none, records-next}

@@ -6,9 +6,9 @@ use borrow.Author.Needs.{needs}
 use Rattle.types.specs.Limits.{writeLimit}
 use Rattle.types.specs.Zero.{noWrite}
 use Rattle.rules.specs.Transaction.{lastOwn}
-use Rattle.look.specs.First.{firstFrom, first-back, first-end}
+use Rattle.view.specs.First.{firstFrom, first-back, first-end}
 use Rattle.look.specs.Own.{own-later, own-here, own-none}
-use Rattle.look.proofs.Long.{writes-long}
+use Rattle.view.proofs.Lengths.{writes-long}
 use Rattle.look.proofs.own.last_own.Statement.{statement}
 use Rattle.look.proofs.own.last_own.Tie as tie
 

@@ -8,7 +8,7 @@ use borrow.Author.Tests.{eq-eqb, ne-eqb}
 use Rattle.types.specs.Limits.{readLimit}
 use Rattle.types.specs.Zero.{noRead}
 use Rattle.rules.specs.Lists.{any}
-use Rattle.look.specs.First.{firstFrom, first-next, first-end, any-first, any-rest}
+use Rattle.view.specs.First.{firstFrom, first-next, first-end, any-first, any-rest}
 use Rattle.look.specs.Reads.{ofPtr}
 use Rattle.look.proofs.Long.{list-long}
 use Rattle.look.proofs.reads.has_read.Statement.{statement}

@@ -7,9 +7,9 @@ use borrow.Author.Needs.{needs}
 use Rattle.types.specs.Limits.{readLimit}
 use Rattle.types.specs.Zero.{noRead}
 use Rattle.rules.specs.Lists.{pad}
-use Rattle.look.specs.Pad.{pad-more}
+use Rattle.view.specs.Pad.{pad-more}
 use Rattle.look.specs.Reads.{laid-first}
-use Rattle.look.proofs.Long.{reads-long}
+use Rattle.view.proofs.Lengths.{reads-long}
 use Rattle.look.proofs.reads.reads_of.Statement.{statement}
 use Rattle.look.proofs.reads.reads_of.Tie as tie
 

@@ -1,7 +1,7 @@
 -- `sees` meets its contract: the snapshot is as long as its type says.
 use borrow.Author.Needs.{needs}
 use Rattle.look.specs.Sight.{sees-by}
-use Rattle.look.proofs.Long.{snapshot-long}
+use Rattle.view.proofs.Lengths.{snapshot-long}
 use Rattle.look.proofs.sight.sees.Statement.{statement}
 use Rattle.look.proofs.sight.sees.Tie as tie
 

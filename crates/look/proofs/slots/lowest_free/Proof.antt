@@ -5,7 +5,7 @@ use native.Mathlib.Omega.{arith}
 use borrow.Author.Needs.{needs}
 use Rattle.types.specs.Limits.{places}
 use Rattle.rules.specs.Calls.{lowestFree}
-use Rattle.look.specs.Lent.{atPlaces}
+use Rattle.view.specs.Lent.{atPlaces}
 use Rattle.look.specs.Slots.{freeFrom, free-end, free-here, free-next}
 use Rattle.look.proofs.slots.lowest_free.Statement.{statement}
 use Rattle.look.proofs.slots.lowest_free.Tie as tie

@@ -8,9 +8,9 @@ use Rattle.types.specs.Limits.{indexReadLimit}
 use Rattle.types.specs.Zero.{noIndexRead}
 use Rattle.rules.specs.Lists.{any}
 use Rattle.rules.specs.Transaction.{indexReadsOf}
-use Rattle.look.specs.First.{firstFrom, first-next, first-end, any-first, any-rest}
+use Rattle.view.specs.First.{firstFrom, first-next, first-end, any-first, any-rest}
 use Rattle.look.specs.Stamps.{ofStripe}
-use Rattle.look.proofs.Long.{index-reads-long}
+use Rattle.view.proofs.Lengths.{index-reads-long}
 use Rattle.look.proofs.stamps.has_stripe.Statement.{statement}
 use Rattle.look.proofs.stamps.has_stripe.Tie as tie
 

@@ -7,9 +7,9 @@ use borrow.Author.Needs.{needs}
 use Rattle.types.specs.Limits.{indexReadLimit}
 use Rattle.types.specs.Zero.{noIndexRead}
 use Rattle.rules.specs.Lists.{pad}
-use Rattle.look.specs.Pad.{pad-more}
+use Rattle.view.specs.Pad.{pad-more}
 use Rattle.look.specs.Stamps.{list-first}
-use Rattle.look.proofs.Long.{index-reads-long}
+use Rattle.view.proofs.Lengths.{index-reads-long}
 use Rattle.look.proofs.stamps.index_reads_of.Statement.{statement}
 use Rattle.look.proofs.stamps.index_reads_of.Tie as tie
 

@@ -2,7 +2,7 @@
 use native.Mathlib.Omega.{arith}
 use borrow.Author.Needs.{needs}
 use Rattle.look.specs.Stamps.{list-short, stamp-before, stamp-room, stamp-over}
-use Rattle.look.proofs.Long.{index-reads-long}
+use Rattle.view.proofs.Lengths.{index-reads-long}
 use Rattle.look.proofs.stamps.record_stamp.Statement.{statement}
 use Rattle.look.proofs.stamps.record_stamp.Tie as tie
 

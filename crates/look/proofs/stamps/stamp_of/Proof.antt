@@ -3,7 +3,7 @@ use mathlib.Core.Path.{sym}
 use native.Mathlib.Omega.{arith}
 use borrow.Author.Needs.{needs}
 use Rattle.types.specs.Limits.{stripes}
-use Rattle.look.specs.Lent.{array-at}
+use Rattle.view.specs.Lent.{array-at}
 use Rattle.look.proofs.stamps.stamp_of.Statement.{statement}
 use Rattle.look.proofs.stamps.stamp_of.Tie as tie
 

@@ -4,14 +4,14 @@ use borrow.Author.Needs.{needs}
 use Rattle.plan.proofs.blocks.push_insertions.Statement.{statement}
 use Rattle.plan.proofs.blocks.push_insertions.Tie as tie
 
-within-requires : tie.Need-within-requires
-within-requires c κs = search needs
+clipped-requires : tie.Need-clipped-requires
+clipped-requires c κs = search needs
 
 push-listed-requires : tie.Need-push-listed-requires
 push-listed-requires c κs = search needs
 
 returns : tie.Need-returns
-returns c = λ S x e ok. inserts S x _ _ e ok (c .before .before .before .before .before .within .ensures) (c .push-listed .ensures)
+returns c = λ S x e ok. inserts S x _ _ e ok (c .before .before .before .before .before .clipped .ensures) (c .push-listed .ensures)
 
 pub push-insertions-spec : {M : Type 1} → statement M
-push-insertions-spec = tie.close (tie.spec within-requires push-listed-requires returns)
+push-insertions-spec = tie.close (tie.spec clipped-requires push-listed-requires returns)

@@ -7,9 +7,9 @@ use lib.ListN.{length}
 use Rattle.types.specs.Limits.{stripes, indexReadLimit}
 use Rattle.types.specs.Zero.{noIndexRead}
 use Rattle.rules.specs.Transaction.{indexReadsOf}
-use Rattle.look.specs.First.{firstFrom, first-next, first-end}
-use Rattle.look.proofs.Long.{index-reads-long}
-use Rattle.plan.specs.Marks.{markAll, mark-next, mark-high}
+use Rattle.view.specs.First.{firstFrom, first-next, first-end}
+use Rattle.view.proofs.Lengths.{index-reads-long}
+use Rattle.view.specs.Marks.{markAll, mark-next, mark-high}
 use Rattle.plan.specs.Guards.{stripeRead}
 use borrow.Author.Needs.{needs}
 use Rattle.plan.proofs.guards.guarded_stripes.Statement.{statement}
@@ -23,12 +23,12 @@ Inv-loop x q₀ n i₀ q i =
 abbrev μ-loop : tie.MeasureT-loop
 μ-loop x q₀ n i₀ q i = n - i
 
-within-requires : tie.Need-within-requires Inv-loop μ-loop
-within-requires c κs = search needs
+clipped-requires : tie.Need-clipped-requires Inv-loop μ-loop
+clipped-requires c κs = search needs
 
 loop-holds : tie.Need-loop-holds Inv-loop μ-loop
 unfolding firstFrom
-loop-holds c = (omega arith, c .within .ensures, search needs, refl)
+loop-holds c = (omega arith, c .clipped .ensures, search needs, refl)
 
 mul-e : tie.Need-mul-e Inv-loop μ-loop
 mul-e c = search needs
@@ -73,7 +73,7 @@ guarded-stripes-spec =
     (tie.spec
     Inv-loop
     μ-loop
-    within-requires
+    clipped-requires
     loop-holds
     mul-e
     element-copy-out-e

@@ -6,9 +6,9 @@ use native.Mathlib.Omega.{arith}
 use Rattle.types.specs.Limits.{readLimit}
 use Rattle.types.specs.Zero.{noRead}
 use Rattle.rules.specs.Transaction.{readsOf}
-use Rattle.look.specs.First.{firstFrom, first-next, first-end}
-use Rattle.look.proofs.Long.{reads-long}
-use Rattle.plan.specs.Marks.{markAll, mark-next}
+use Rattle.view.specs.First.{firstFrom, first-next, first-end}
+use Rattle.view.proofs.Lengths.{reads-long}
+use Rattle.view.specs.Marks.{markAll, mark-next}
 use Rattle.plan.specs.Guards.{partitionRead}
 use borrow.Author.Needs.{needs}
 use Rattle.plan.proofs.guards.read_partitions.Statement.{statement}
@@ -21,12 +21,12 @@ Inv-loop x q₀ n i₀ q i =
 abbrev μ-loop : tie.MeasureT-loop
 μ-loop x q₀ n i₀ q i = n - i
 
-within-requires : tie.Need-within-requires Inv-loop μ-loop
-within-requires c κs = search needs
+clipped-requires : tie.Need-clipped-requires Inv-loop μ-loop
+clipped-requires c κs = search needs
 
 loop-holds : tie.Need-loop-holds Inv-loop μ-loop
 unfolding firstFrom
-loop-holds c = (omega arith, c .within .ensures, refl)
+loop-holds c = (omega arith, c .clipped .ensures, refl)
 
 mul-e : tie.Need-mul-e Inv-loop μ-loop
 mul-e c = search needs
@@ -60,7 +60,7 @@ read-partitions-spec =
     (tie.spec
     Inv-loop
     μ-loop
-    within-requires
+    clipped-requires
     loop-holds
     mul-e
     element-copy-out-e

@@ -5,9 +5,9 @@ use Prim.Native.Nat.{_-_, _≤_, min}
 use native.Mathlib.Omega.{arith}
 use Rattle.types.specs.Limits.{writeLimit}
 use Rattle.types.specs.Zero.{noWrite}
-use Rattle.look.specs.First.{firstFrom, first-next, first-end}
-use Rattle.look.proofs.Long.{writes-long}
-use Rattle.plan.specs.Marks.{markAll, mark-next}
+use Rattle.view.specs.First.{firstFrom, first-next, first-end}
+use Rattle.view.proofs.Lengths.{writes-long}
+use Rattle.view.specs.Marks.{markAll, mark-next}
 use Rattle.plan.specs.Guards.{partitionWritten, noPartitions, writtenMarks}
 use borrow.Author.Needs.{needs}
 use Rattle.plan.proofs.guards.written_partitions.Statement.{statement}
@@ -20,12 +20,12 @@ Inv-loop x q₀ n i₀ q i =
 abbrev μ-loop : tie.MeasureT-loop
 μ-loop x q₀ n i₀ q i = n - i
 
-within-requires : tie.Need-within-requires Inv-loop μ-loop
-within-requires c κs = search needs
+clipped-requires : tie.Need-clipped-requires Inv-loop μ-loop
+clipped-requires c κs = search needs
 
 loop-holds : tie.Need-loop-holds Inv-loop μ-loop
 unfolding firstFrom noPartitions writtenMarks
-loop-holds c = (omega arith, c .within .ensures, refl)
+loop-holds c = (omega arith, c .clipped .ensures, refl)
 
 mul-w : tie.Need-mul-w Inv-loop μ-loop
 mul-w c = search needs
@@ -59,7 +59,7 @@ written-partitions-spec =
     (tie.spec
     Inv-loop
     μ-loop
-    within-requires
+    clipped-requires
     loop-holds
     mul-w
     element-copy-out-w

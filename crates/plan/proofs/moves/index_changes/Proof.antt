@@ -6,7 +6,7 @@ use borrow.Author.Tests.{not-true, not-false}
 use lib.ListN.{length}
 use Rattle.types.specs.Limits.{writeLimit}
 use Rattle.rules.specs.Changes.{destinations, sources}
-use Rattle.look.specs.Lent.{atPlaces, flagsAtPlaces}
+use Rattle.view.specs.Lent.{atPlaces, flagsAtPlaces}
 use Rattle.plan.specs.Moves.{codesOf, noStripes, changedMarks, movesOf, changesTo, changes-none, changes-to-few, next-same, next-new, changes-all}
 use borrow.Author.Needs.{needs}
 use Rattle.plan.proofs.moves.index_changes.Statement.{statement}
@@ -19,12 +19,12 @@ Inv-loop key has count at end m₀ i₀ m i =
 abbrev μ-loop : tie.MeasureT-loop
 μ-loop key has count at end m₀ i₀ m i = end - i
 
-within-requires : tie.Need-within-requires Inv-loop μ-loop
-within-requires c κs = search needs
+clipped-requires : tie.Need-clipped-requires Inv-loop μ-loop
+clipped-requires c κs = search needs
 
 loop-holds : tie.Need-loop-holds Inv-loop μ-loop
 unfolding codesOf noStripes changedMarks movesOf destinations sources
-loop-holds c = (omega arith, c .within .ensures, rw (changes-none _ _ _ _))
+loop-holds c = (omega arith, c .clipped .ensures, rw (changes-none _ _ _ _))
 
 mul-w : tie.Need-mul-w Inv-loop μ-loop
 mul-w c = search needs
@@ -78,7 +78,7 @@ index-changes-spec =
     (tie.spec
     Inv-loop
     μ-loop
-    within-requires
+    clipped-requires
     loop-holds
     mul-w
     array-copy-out-w

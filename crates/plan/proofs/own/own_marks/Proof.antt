@@ -3,8 +3,8 @@ use mathlib.Core.Path.{_≡_, refl}
 use Prim.Native.Nat.{_-_, _≤_}
 use native.Mathlib.Omega.{arith}
 use Rattle.types.specs.Limits.{places}
-use Rattle.look.specs.Lent.{atPlaces}
-use Rattle.plan.specs.Marks.{markAll}
+use Rattle.view.specs.Lent.{atPlaces}
+use Rattle.view.specs.Marks.{markAll}
 use Rattle.plan.specs.Own.{noSlots, ownFrom, ownMarks, own-end, own-free, own-not, own-here}
 use borrow.Author.Needs.{needs}
 use Rattle.plan.proofs.own.own_marks.Statement.{statement}

@@ -6,7 +6,7 @@ use native.Mathlib.Omega.{arith}
 use lib.ListN.{length, take}
 use Rattle.types.specs.Limits.{places, writeLimit}
 use Rattle.types.specs.Zero.{noWrite}
-use Rattle.look.specs.First.{firstFrom, first-next, first-end}
+use Rattle.view.specs.First.{firstFrom, first-next, first-end}
 use Rattle.plan.specs.Own.{unmarkAll, newOf, unmark-next, unmark-high}
 use borrow.Author.Needs.{needs}
 use Rattle.plan.proofs.own.recycled_marks.Statement.{statement}
@@ -19,12 +19,12 @@ Inv-loop count at m₀ n i₀ m i =
 abbrev μ-loop : tie.MeasureT-loop
 μ-loop count at m₀ n i₀ m i = n - i
 
-within-requires : tie.Need-within-requires Inv-loop μ-loop
-within-requires c κs = search needs
+clipped-requires : tie.Need-clipped-requires Inv-loop μ-loop
+clipped-requires c κs = search needs
 
 loop-holds : tie.Need-loop-holds Inv-loop μ-loop
 unfolding firstFrom
-loop-holds c = (omega arith, c .within .ensures, search needs, refl)
+loop-holds c = (omega arith, c .clipped .ensures, search needs, refl)
 
 mul-w : tie.Need-mul-w Inv-loop μ-loop
 mul-w c = search needs
@@ -69,7 +69,7 @@ recycled-marks-spec =
     (tie.spec
     Inv-loop
     μ-loop
-    within-requires
+    clipped-requires
     loop-holds
     mul-w
     array-copy-out-w

@@ -8,7 +8,7 @@ use lib.ListN.{length, take, length-take}
 use Rattle.types.specs.Limits.{writeLimit}
 use Rattle.rules.specs.Lists.{all}
 use Rattle.plan.specs.Plain.{plain}
-use Rattle.plan.specs.Pushes.{Pushing, pushing-start, pushing-end}
+use Rattle.journal.specs.Pushing.{Pushing, pushing-start, pushing-end}
 use Rattle.plan.specs.Publish.{publishing, publishing-end, push-one}
 use Rattle.plan.proofs.publish.push_writes.Statement.{statement}
 use Rattle.plan.proofs.publish.push_writes.Tie as tie
@@ -20,11 +20,11 @@ Inv-loop count t limit j₀ n at end k₀ left₀ i₀ j k left i =
 abbrev μ-loop : tie.MeasureT-loop
 μ-loop count t limit j₀ n at end k₀ left₀ i₀ j k left i = end - i
 
-within-requires : tie.Need-within-requires Inv-loop μ-loop
-within-requires c κs = search needs
+clipped-requires : tie.Need-clipped-requires Inv-loop μ-loop
+clipped-requires c κs = search needs
 
 loop-holds : tie.Need-loop-holds Inv-loop μ-loop
-loop-holds c = (omega arith, c .within .ensures, λ p. pushing-start _ _ _)
+loop-holds c = (omega arith, c .clipped .ensures, λ p. pushing-start _ _ _)
 
 mul-w : tie.Need-mul-w Inv-loop μ-loop
 mul-w c = search needs
@@ -66,7 +66,7 @@ push-writes-spec =
     (tie.spec
     Inv-loop
     μ-loop
-    within-requires
+    clipped-requires
     loop-holds
     mul-w
     array-copy-out-w

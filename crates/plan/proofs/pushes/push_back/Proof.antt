@@ -6,7 +6,8 @@ use native.Mathlib.Omega.{arith}
 use lib.ListN.{length}
 use Rattle.rules.specs.Puts.{kLock}
 use Rattle.journal.specs.Journal.{narrow}
-use Rattle.plan.specs.Pushes.{Pushing, pushing-start, pushing-end, listedBack, back-none, back-end, back-clip, push-before}
+use Rattle.journal.specs.Pushing.{Pushing, pushing-start, pushing-end}
+use Rattle.plan.specs.Pushes.{listedBack, back-none, back-end, back-clip, push-before}
 use borrow.Author.Needs.{needs}
 use Rattle.plan.proofs.pushes.push_back.Statement.{statement}
 use Rattle.plan.proofs.pushes.push_back.Tie as tie
@@ -18,13 +19,13 @@ Inv-loop codes from kind limit j₀ n k₀ left₀ i₀ j k left i =
 abbrev μ-loop : tie.MeasureT-loop
 μ-loop codes from kind limit j₀ n k₀ left₀ i₀ j k left i = i
 
-within-requires : tie.Need-within-requires Inv-loop μ-loop
-within-requires c κs = search needs
+clipped-requires : tie.Need-clipped-requires Inv-loop μ-loop
+clipped-requires c κs = search needs
 
 loop-holds : tie.Need-loop-holds Inv-loop μ-loop
 loop-holds c =
     let a = c .before .before .args in
-    (omega arith, λ b w. rw (c .within .ensures, back-clip (a .kind) (a .codes .now) (a .from) (a .limit)) (pushing-start _ _ _))
+    (omega arith, λ b w. rw (c .clipped .ensures, back-clip (a .kind) (a .codes .now) (a .from) (a .limit)) (pushing-start _ _ _))
 
 returns : tie.Need-returns Inv-loop μ-loop
 returns c = λ b w. pushing-end (c .before .before .loop .inv .1 b w) (back-none _ _ _ _ (omega arith))
@@ -60,7 +61,7 @@ push-back-spec =
     (tie.spec
     Inv-loop
     μ-loop
-    within-requires
+    clipped-requires
     loop-holds
     returns
     sub-i

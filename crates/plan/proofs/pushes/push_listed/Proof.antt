@@ -7,7 +7,8 @@ use borrow.Author.Needs.{needs}
 use lib.ListN.{length}
 use Rattle.rules.specs.Puts.{kLock}
 use Rattle.journal.specs.Journal.{narrow}
-use Rattle.plan.specs.Pushes.{Pushing, pushing-start, pushing-end, listed, listed-none, listed-end, push-listed}
+use Rattle.journal.specs.Pushing.{Pushing, pushing-start, pushing-end}
+use Rattle.plan.specs.Pushes.{listed, listed-none, listed-end, push-listed}
 use Rattle.plan.proofs.pushes.push_listed.Statement.{statement}
 use Rattle.plan.proofs.pushes.push_listed.Tie as tie
 

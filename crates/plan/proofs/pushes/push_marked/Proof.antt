@@ -7,7 +7,8 @@ use borrow.Author.Needs.{needs}
 use lib.ListN.{length}
 use Rattle.rules.specs.Puts.{kLock}
 use Rattle.journal.specs.Journal.{placeBase, narrow}
-use Rattle.plan.specs.Pushes.{Pushing, pushing-start, pushing-end, push-mark, pass-mark, marked, marked-none, marked-end}
+use Rattle.journal.specs.Pushing.{Pushing, pushing-start, pushing-end}
+use Rattle.plan.specs.Pushes.{push-mark, pass-mark, marked, marked-none, marked-end}
 use Rattle.plan.proofs.pushes.push_marked.Statement.{statement}
 use Rattle.plan.proofs.pushes.push_marked.Tie as tie
 

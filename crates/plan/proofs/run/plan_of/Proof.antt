@@ -1,5 +1,5 @@
 -- `plan_of` meets its contract, part by part.
-use Rattle.look.specs.Lent.{atPlaces, flagsAtPlaces}
+use Rattle.view.specs.Lent.{atPlaces, flagsAtPlaces}
 use Rattle.plan.specs.Planned.{plan-is}
 use borrow.Author.Needs.{needs}
 use Rattle.plan.proofs.run.plan_of.Statement.{statement}

@@ -2,9 +2,9 @@
 use Rattle.types.specs.Limits.{faultLimit}
 use Rattle.types.specs.Zero.{noFault}
 use Rattle.rules.specs.Faults.{faultAt, faultsOf}
-use Rattle.steps.specs.First.{firstFrom, first-next, first-end}
+use Rattle.view.specs.First.{firstFrom, first-next, first-end}
 use Rattle.steps.specs.Faults.{fault-here, fault-later}
-use Rattle.steps.proofs.Long.{faults-long}
+use Rattle.view.proofs.Lengths.{faults-long}
 use mathlib.Core.Path.{_≡_, sym, ap, _∙_}
 use Prim.Native.Nat.{_-_, _≤_, min}
 use native.Mathlib.Omega.{arith}

@@ -1,9 +1,9 @@
 -- `letters_of` meets its contract: the letters put in are those of the faults from i on.
 use Rattle.types.specs.Limits.{faultLimit}
 use Rattle.types.specs.Zero.{noFault}
-use Rattle.steps.specs.First.{firstFrom, first-back, first-end}
+use Rattle.view.specs.First.{firstFrom, first-back, first-end}
 use Rattle.steps.specs.Faults.{lettersOf, letters-are, letters-none, letters-in, letters-out}
-use Rattle.steps.proofs.Long.{faults-long}
+use Rattle.view.proofs.Lengths.{faults-long}
 use mathlib.Core.Path.{_≡_, sym, ap, _∙_}
 use Prim.Native.Nat.{_-_, _≤_, min}
 use native.Mathlib.Omega.{arith}

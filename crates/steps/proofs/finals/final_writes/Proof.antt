@@ -2,9 +2,9 @@
 use borrow.Author.Tests.{not-true, not-false}
 use Rattle.types.specs.Limits.{writeLimit}
 use Rattle.types.specs.Zero.{noWrite}
-use Rattle.steps.specs.First.{first-next, first-end}
+use Rattle.view.specs.First.{first-next, first-end}
 use Rattle.steps.specs.Finals.{Laid, laid-none, laid-here, laid-later, laid-all}
-use Rattle.steps.proofs.Long.{writes-long}
+use Rattle.view.proofs.Lengths.{writes-long}
 use mathlib.Core.Path.{_≡_, refl, sym, _∙_}
 use Prim.Native.Nat.{_-_, _≤_, min}
 use native.Mathlib.Omega.{arith}

@@ -1,6 +1,6 @@
 -- `has_writes` meets its contract: the last write is final.
 use Rattle.steps.specs.Finals.{written}
-use Rattle.steps.proofs.Long.{writes-long}
+use Rattle.view.proofs.Lengths.{writes-long}
 use Prim.Native.Nat.{_-_}
 use Rattle.steps.proofs.finals.has_writes.Statement.{statement}
 use Rattle.steps.proofs.finals.has_writes.Tie as tie

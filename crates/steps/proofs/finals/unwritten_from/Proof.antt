@@ -5,7 +5,7 @@ use mathlib.Core.Bool.{not}
 use lib.ListN.{length}
 use borrow.Author.Tests.{eq-eqb, ne-eqb}
 use Rattle.rules.specs.Lists.{any}
-use Rattle.steps.specs.First.{firstFrom, first-next, first-end, any-first, any-rest}
+use Rattle.view.specs.First.{firstFrom, first-next, first-end, any-first, any-rest}
 use Rattle.steps.specs.Finals.{ofRow}
 use mathlib.Core.Path.{_≡_, sym, ap, _∙_}
 use Prim.Native.Nat.{_-_, min}

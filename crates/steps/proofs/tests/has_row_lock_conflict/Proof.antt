@@ -2,10 +2,10 @@
 use Rattle.types.specs.Limits.{writeLimit}
 use Rattle.types.specs.Zero.{noWrite}
 use Rattle.rules.specs.Lists.{any}
-use Rattle.steps.specs.Lent.{atRows, atPlaces, flagsAtPlaces, atActive}
-use Rattle.steps.specs.First.{firstFrom, first-next, first-end, any-first, any-rest}
+use Rattle.view.specs.Lent.{atRows, atPlaces, flagsAtPlaces, atActive}
+use Rattle.view.specs.First.{firstFrom, first-next, first-end, any-first, any-rest}
 use Rattle.steps.specs.Conflicts.{headLocked, rowLockConflictOf}
-use Rattle.steps.proofs.Long.{writes-long}
+use Rattle.view.proofs.Lengths.{writes-long}
 use mathlib.Core.Path.{_≡_, sym, ap, _∙_}
 use Prim.Native.Nat.{_-_, _≤_, min}
 use native.Mathlib.Omega.{arith}

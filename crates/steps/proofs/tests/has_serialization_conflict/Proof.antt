@@ -4,10 +4,10 @@ use Rattle.types.specs.Zero.{noRead}
 use Rattle.rules.specs.Lists.{any}
 use Rattle.rules.specs.Transaction.{snapshotOf}
 use Rattle.rules.specs.Tests.{serializationConflict}
-use Rattle.steps.specs.Lent.{atPlaces, array-same}
-use Rattle.steps.specs.First.{firstFrom, first-next, first-end, any-first, any-rest}
+use Rattle.view.specs.Lent.{atPlaces, array-same}
+use Rattle.view.specs.First.{firstFrom, first-next, first-end, any-first, any-rest}
 use Rattle.steps.specs.Conflicts.{readConflictOf, serialization-of}
-use Rattle.steps.proofs.Long.{reads-long, snapshot-long}
+use Rattle.view.proofs.Lengths.{reads-long, snapshot-long}
 use mathlib.Core.Path.{_≡_, sym, ap, _∙_}
 use Prim.Native.Nat.{_-_, _≤_, min}
 use native.Mathlib.Omega.{arith}

@@ -4,11 +4,11 @@ use borrow.Author.Tests.{eq-eqb, ne-eqb}
 use Rattle.types.specs.Limits.{writeLimit}
 use Rattle.types.specs.Zero.{noWrite}
 use Rattle.rules.specs.Lists.{any}
-use Rattle.steps.specs.Lent.{atRows}
-use Rattle.steps.specs.First.{firstFrom, first-next, first-end, any-first, any-rest}
+use Rattle.view.specs.Lent.{atRows}
+use Rattle.view.specs.First.{firstFrom, first-next, first-end, any-first, any-rest}
 use Rattle.steps.specs.Finals.{finals-long, finals-fit, finals-taken}
 use Rattle.steps.specs.Conflicts.{baseMoved, write-base-of}
-use Rattle.steps.proofs.Long.{writes-long}
+use Rattle.view.proofs.Lengths.{writes-long}
 use mathlib.Core.Path.{_≡_, refl, sym, ap, _∙_}
 use Prim.Native.Nat.{_-_, _≤_}
 use native.Mathlib.Omega.{arith}

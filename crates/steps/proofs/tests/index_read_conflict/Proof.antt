@@ -4,10 +4,10 @@ use Rattle.types.specs.Limits.{indexReadLimit}
 use Rattle.types.specs.Zero.{noIndexRead}
 use Rattle.rules.specs.Lists.{any}
 use Rattle.rules.specs.Tests.{indexReadConflict}
-use Rattle.steps.specs.Lent.{atStripes}
-use Rattle.steps.specs.First.{firstFrom, first-next, first-end, any-first, any-rest}
+use Rattle.view.specs.Lent.{atStripes}
+use Rattle.view.specs.First.{firstFrom, first-next, first-end, any-first, any-rest}
 use Rattle.steps.specs.Conflicts.{stampMoved, index-conflict-set, index-read-of}
-use Rattle.steps.proofs.Long.{index-reads-long}
+use Rattle.view.proofs.Lengths.{index-reads-long}
 use mathlib.Core.Path.{_≡_, sym, ap, _∙_}
 use Prim.Native.Nat.{_-_, _≤_, min}
 use native.Mathlib.Omega.{arith}

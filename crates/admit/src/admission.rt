@@ -1,0 +1,54 @@
+// Admission: numbers 1, 2 and 3, asked once by each call but begin and recovery.
+
+ghost use mathlib.Core.Path.{_≡_};
+ghost use mathlib.Core.Bool.{_&&_};
+ghost use Rattle.rules.specs.Numbers.{isDone};
+ghost use Rattle.admit.specs.Admission.{triedBy, admitted};
+use super::store::resting_marked;
+use super::tx::fit_of;
+use types::Fate;
+use types::Refusal;
+use types::SlotPtr;
+use types::Store;
+use types::Tx;
+use view::txids::is_active;
+
+// Nothing was refused.
+pub fn is_done(why: Refusal) -> bool
+    ensures { λ r. ⌜ r ≡ isDone why ⌝ }
+{
+    match why {
+        Refusal::Done => true,
+        _ => false,
+    }
+}
+
+// The first of 1, 2 and 3 that holds.
+fn tried(rests: bool, fits: bool, planned: bool, active: bool) -> Refusal
+    ensures { λ r. ⌜ r ≡ triedBy rests (fits && planned) active ⌝ }
+{
+    if !rests {
+        return Refusal::NotResting(Fate::Open);
+    }
+    if !fits {
+        return Refusal::Unfit(Fate::Open);
+    }
+    if !planned {
+        return Refusal::Unfit(Fate::Open);
+    }
+    if !active {
+        return Refusal::NotActive(Fate::Closed);
+    }
+    Refusal::Done
+}
+
+// The store is at rest, the transaction fit under the marks of the same walk, its schedule fit, and its txid active.
+pub fn admitted(s: Store, x: Tx, planned: bool) -> Refusal
+    ensures { λ r. ⌜ r ≡ admitted s x planned ⌝ }
+{
+    let mut seen = [0; SlotPtr::PLACES];
+    let rests = resting_marked(s, &mut seen);
+    let fits = fit_of(&s.xmin, &s.next, s.clock, &seen, x);
+    let active = is_active(&s.active, x.txid);
+    tried(rests, fits, planned, active)
+}

@@ -1,0 +1,26 @@
+-- `key_at` meets its contract: within its bounds the array reads the same, beyond them nothing.
+use mathlib.Core.Path.{sym}
+use native.Mathlib.Omega.{arith}
+use borrow.Author.Needs.{needs}
+use Rattle.types.specs.Limits.{places}
+use Rattle.view.specs.Lent.{array-at, array-past}
+use Rattle.view.proofs.lent.key_at.Statement.{statement}
+use Rattle.view.proofs.lent.key_at.Tie as tie
+
+cast-i : tie.Need-cast-i
+cast-i c = search needs
+
+mul-result : tie.Need-mul-result
+mul-result c = search needs
+
+element-copy-out-result : tie.Need-element-copy-out-result
+element-copy-out-result c = search needs
+
+returns : tie.Need-returns
+returns c = sym (array-at places 0 _ _ (omega arith))
+
+returns-2 : tie.Need-returns-2
+returns-2 c = sym (array-past places 0 _ _ (omega arith))
+
+pub key-at-spec : {M : Type 1} → statement M
+key-at-spec = tie.close (tie.spec cast-i mul-result element-copy-out-result returns returns-2)

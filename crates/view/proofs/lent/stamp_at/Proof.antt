@@ -1,0 +1,24 @@
+-- `stamp_at` meets its contract: within its bounds the array reads the same, beyond them nothing.
+use Rattle.types.specs.Limits.{stripes}
+use Rattle.view.specs.Lent.{array-at, array-past}
+use mathlib.Core.Path.{sym}
+use Prim.Native.Nat.{_-_}
+use native.Mathlib.Omega.{arith}
+use borrow.Author.Needs.{needs}
+use Rattle.view.proofs.lent.stamp_at.Statement.{statement}
+use Rattle.view.proofs.lent.stamp_at.Tie as tie
+
+mul-t6 : tie.Need-mul-t6
+mul-t6 c = search needs
+
+element-copy-out-t9 : tie.Need-element-copy-out-t9
+element-copy-out-t9 c = search needs
+
+returns : tie.Need-returns
+returns c = sym (array-at stripes 0 _ _ (omega arith))
+
+returns-2 : tie.Need-returns-2
+returns-2 c = sym (array-past stripes 0 _ _ (omega arith))
+
+pub stamp-at-spec : {M : Type 1} → statement M
+stamp-at-spec = tie.close (tie.spec mul-t6 element-copy-out-t9 returns returns-2)
