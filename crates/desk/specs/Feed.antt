@@ -2,7 +2,7 @@
 use mathlib.Core.Path.{_≡_}
 use mathlib.Core.Bool.{cond}
 use mathlib.Core.List.{List, [], _∷_, _++_}
-use Prim.Native.Nat.{ℕ, _+_, _%_, _^_, _≤_}
+use Prim.Native.Nat.{ℕ, _+_, _*_, _%_, _^_, _≤_}
 use lib.Dec.{eqb}
 use lib.ListN.{length, take}
 use Rattle.rules.specs.Replay.{Desk, start, turn}
@@ -79,10 +79,11 @@ pub record Counted (n : ℕ) (out : Bytes) : Type 0 where
   pub there : n ≤ length out
   pub many : n ≡ length (take n out)
 
--- bytes of a part were taken and answered; all of them, where the room for one more answer is left
+-- bytes of a part were taken, at most one answer for each; all of them, where the room for one more answer is left
 pub record Feeds (s : Reading) (part out : Bytes) (f : Fed) : Type 0 where
   pub within : f .taken ≤ length part
   pub fits : Counted (f .count) out
   pub state : reading (f .replay) ≡ fed (take (f .taken) part) s .state
   pub answers : take (f .count) out ≡ fed (take (f .taken) part) s .answers
+  pub few : f .count ≤ answerRoom * f .taken
   pub all : f .count + answerRoom ≤ length out → f .taken ≡ length part

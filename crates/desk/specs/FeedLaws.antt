@@ -5,7 +5,7 @@ use Prim.Native.Nat.{ℕ, zero, suc, _+_, _<_, _≤_}
 use native.Mathlib.Numerals.{add-one}
 use native.Mathlib.Omega.{arith}
 use lib.Dec.{eqb}
-use lib.ListN.{length, getD, take, set, length-take}
+use lib.ListN.{length, getD, take, set}
 use lib.Seq.{take-suc, length-take-le}
 use borrow.Author.Tests.{eq-eqb, ne-eqb, eqb-true, eqb-false}
 use Rattle.rules.specs.Bools.{by}
@@ -106,10 +106,6 @@ module _ (s : Reading) (part : Bytes) (i : ℕ) (h : i < length part) (d : Desk)
   unfolding withByte
   on-byte other e = goes-byte s part i h g other (λ j. record { desk = d; held = e j; lines = k })
 
-fed-none : (s : Reading) → fed [] s .answers ≡ []
-unfolding fed
-fed-none s = refl
-
 -- the end of a script: nothing is left, or a last line is
 pub ended-none : (s : Reading) → length (s .held) ≡ 0 → [] ≡ ended s
 unfolding ended
@@ -122,14 +118,8 @@ module _ (s : Reading) (some : length (s .held) ≡ 0 → ⊥) where
 
   pub ended-some : (out : Bytes) (f : Fed) → Feeds s (10 ∷ []) out f → answerRoom ≤ length out → take (f .count) out ≡ ended s
   ended-some out f F room =
-      by (eqb (f .taken) 0)
-      (λ t.
-      let z : f .taken ≡ 0 = eqb-true _ _ t in
-      let e : length (take (f .count) out) ≡ 0 = ap length (F .answers ∙ ap (λ k. fed (take k (10 ∷ [])) s .answers) z ∙ fed-none s) in
-      absurd (omega (arith, z, length-take (f .count) out, F .all (omega (arith, length-take (f .count) out)))))
-      (λ t.
-      let one : f .taken ≡ 1 = omega (arith, eqb-false (f .taken) 0 t, F .within) in
-      F .answers ∙ ap (λ k. fed (take k (10 ∷ [])) s .answers) one ∙ last-line)
+      let one : f .taken ≡ 1 = by (eqb (f .taken) 0) (λ t. F .all (omega (arith, eqb-true (f .taken) 0 t, F .few))) (λ t. omega (arith, eqb-false (f .taken) 0 t, F .within)) in
+      F .answers ∙ ap (λ k. fed (take k (10 ∷ [])) s .answers) one ∙ last-line
 
 pub counted : {n : ℕ} {out : Bytes} → n ≤ length out → Counted n out
 counted {n} {out} h = record { there = h; many = sym (length-take-le n out h) }

@@ -1,13 +1,13 @@
 -- `feed` meets its contract: the first i bytes of the part are fed, and the first n bytes of `out` are their answers.
 use mathlib.Core.Path.{_≡_, refl, _∙_}
-use Prim.Native.Nat.{_-_, _≤_}
+use Prim.Native.Nat.{_-_, _*_, _≤_}
 use native.Mathlib.Omega.{arith}
 use lib.ListN.{length, length-set}
 use borrow.Author.Needs.{needs}
 use Rattle.types.specs.Limits.{placeLimit}
 use Rattle.types.specs.Zero.{zeroTx}
 use Rattle.desk.specs.Turn.{place-in-below}
-use Rattle.desk.specs.Feed.{heldIn}
+use Rattle.desk.specs.Feed.{answerRoom, heldIn}
 use Rattle.desk.specs.FeedLaws.{Goes, goes-none, within, on-feed, on-byte, counted}
 use Rattle.desk.proofs.Long.{txs-long}
 use Rattle.desk.proofs.feed.feed.Statement.{statement}
@@ -15,7 +15,7 @@ use Rattle.desk.proofs.feed.feed.Tie as tie
 
 abbrev Inv-loop : tie.InvT-loop
 Inv-loop part out₀ store₀ txs₀ plan₀ held₀ lines₀ n₀ i₀ out store txs plan held lines n i =
-    (i ≤ length part) × (n ≤ length out) × (length out ≡ length out₀) × (length txs ≡ placeLimit)
+    (i ≤ length part) × (n ≤ length out) × (length out ≡ length out₀) × (length txs ≡ placeLimit) × (n ≤ answerRoom * i)
     × Goes (record { desk = record { store = store₀; txs = txs₀; plan = plan₀ }; held = heldIn held₀; lines = lines₀ }) part out i n
     (record { desk = record { store = store; txs = txs; plan = plan }; held = heldIn held; lines = lines })
 
@@ -23,7 +23,7 @@ abbrev μ-loop : tie.MeasureT-loop
 μ-loop part out₀ store₀ txs₀ plan₀ held₀ lines₀ n₀ i₀ out store txs plan held lines n i = length part - i
 
 loop-holds : tie.Need-loop-holds Inv-loop μ-loop
-loop-holds c = (omega arith, omega arith, refl, txs-long (c .before .before .before .before .before .before .args .r) (c .before .before .before .before .before .before .good .0), goes-none _ _ _)
+loop-holds c = (omega arith, omega arith, refl, txs-long (c .before .before .before .before .before .before .args .r) (c .before .before .before .before .before .before .good .0), omega arith, goes-none _ _ _)
 
 sub-if1 : tie.Need-sub-if1 Inv-loop μ-loop
 sub-if1 c = search needs
@@ -73,8 +73,8 @@ loop-again c =
     let put = c .before .before .before .put-answer .ensures in
     let low = place-in-below (heldIn (l .loop .held)) (c .before .before .before .before .before .before .before .before .before .before .before .before .line-in .ensures) (c .before .before .before .before .before .before .before .before .before .before .before .place-of .ensures) in
     let g =
-    on-feed _ _ (l .loop .i) (c .before .before .before .before .before .before .before .before .before .before .before .before .before .before .before .before .loop-test .taken) _ _ (l .loop .lines) (l .loop .inv .4) (c .before .before .before .before .before .before .before .before .before .turn .result) (c .before .before .before .before .before .before .before .before .before .before .before .before .before .if2 .taken) (c .before .before .before .before .before .before .before .before .before .before .before .before .line-in .ensures) (c .before .before .before .before .before .before .before .before .before .before .before .place-of .ensures) (within (l .loop .txs) (c .before .before .before .before .before .before .before .before .before .before .before .place-of .result) _ zeroTx (omega (arith, low, l .loop .inv .3))) (c .before .before .before .before .before .before .before .before .before .turn .ensures) (c .before .before .before .before .before .wrapping-add-u64 .ensures) put (c .none .ensures) in
-    (omega (arith, c .before .before .before .before .before .before .before .before .before .before .before .before .before .before .before .before .loop-test .taken), omega (arith, put .long, put .few, c .before .before .before .before .before .before .before .before .before .before .before .before .before .before .before .if1 .left, l .loop .inv .1), put .long ∙ l .loop .inv .2, simp length-set (l .loop .inv .3), g)
+    on-feed _ _ (l .loop .i) (c .before .before .before .before .before .before .before .before .before .before .before .before .before .before .before .before .loop-test .taken) _ _ (l .loop .lines) (l .loop .inv .5) (c .before .before .before .before .before .before .before .before .before .turn .result) (c .before .before .before .before .before .before .before .before .before .before .before .before .before .if2 .taken) (c .before .before .before .before .before .before .before .before .before .before .before .before .line-in .ensures) (c .before .before .before .before .before .before .before .before .before .before .before .place-of .ensures) (within (l .loop .txs) (c .before .before .before .before .before .before .before .before .before .before .before .place-of .result) _ zeroTx (omega (arith, low, l .loop .inv .3))) (c .before .before .before .before .before .before .before .before .before .turn .ensures) (c .before .before .before .before .before .wrapping-add-u64 .ensures) put (c .none .ensures) in
+    (omega (arith, c .before .before .before .before .before .before .before .before .before .before .before .before .before .before .before .before .loop-test .taken), omega (arith, put .long, put .few, c .before .before .before .before .before .before .before .before .before .before .before .before .before .before .before .if1 .left, l .loop .inv .1), put .long ∙ l .loop .inv .2, simp length-set (l .loop .inv .3), omega (arith, put .few, l .loop .inv .4), g)
 
 with-byte-requires : tie.Need-with-byte-requires Inv-loop μ-loop
 with-byte-requires c κs = search needs
@@ -85,7 +85,7 @@ loop-less-2 c = search needs
 loop-again-2 : tie.Need-loop-again-2 Inv-loop μ-loop
 loop-again-2 c =
     let l = c .before .before .before .before .before in
-    (omega arith, omega arith, l .loop .inv .2, l .loop .inv .3, on-byte _ _ (l .loop .i) (omega arith) _ _ (l .loop .lines) (l .loop .inv .4) (c .before .if2 .left) (c .with-byte .ensures))
+    (omega arith, omega arith, l .loop .inv .2, l .loop .inv .3, omega arith, on-byte _ _ (l .loop .i) (omega arith) _ _ (l .loop .lines) (l .loop .inv .5) (c .before .if2 .left) (c .with-byte .ensures))
 
 same-length : tie.Need-same-length Inv-loop μ-loop
 same-length c = search needs
@@ -93,7 +93,7 @@ same-length c = search needs
 returns : tie.Need-returns Inv-loop μ-loop
 returns c =
     let l = c .before .loop in
-    record { within = l .inv .0; fits = counted (l .inv .1); state = l .inv .4 .state; answers = l .inv .4 .answers; all = λ h. omega (arith, c .loop-test .left, l .inv .0) }
+    record { within = l .inv .0; fits = counted (l .inv .1); state = l .inv .5 .state; answers = l .inv .5 .answers; few = l .inv .4; all = λ h. omega (arith, c .loop-test .left, l .inv .0) }
 
 same-length-2 : tie.Need-same-length-2 Inv-loop μ-loop
 same-length-2 c = search needs
@@ -101,7 +101,7 @@ same-length-2 c = search needs
 returns-2 : tie.Need-returns-2 Inv-loop μ-loop
 returns-2 c =
     let l = c .before .before .loop in
-    record { within = l .inv .0; fits = counted (l .inv .1); state = l .inv .4 .state; answers = l .inv .4 .answers; all = λ h. absurd (omega (arith, c .if1 .taken, l .inv .1, l .inv .2)) }
+    record { within = l .inv .0; fits = counted (l .inv .1); state = l .inv .5 .state; answers = l .inv .5 .answers; few = l .inv .4; all = λ h. absurd (omega (arith, c .if1 .taken, l .inv .1, l .inv .2)) }
 
 pub feed-spec : {M : Type 1} → statement M
 feed-spec =
