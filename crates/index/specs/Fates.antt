@@ -13,7 +13,7 @@ use Rattle.rules.specs.Commit.{count, finish}
 use Rattle.rules.specs.Answer.{commit}
 use Rattle.laws.specs.Sized.{Sized}
 use Rattle.index.specs.Healthy.{poisons, poisoned-after, poisons-later}
-use Rattle.index.specs.Table.{Row, Each, each}
+use Rattle.index.specs.Table.{Row, Each, end, _▸_, each}
 use Rattle.index.specs.Numbers.{poisoned, aborted, with, left, whole, stepRows, doneRow, commitRows}
 use Rattle.index.specs.Seen.{commit-told}
 
@@ -50,157 +50,15 @@ module _ (S : Store) (x : Tx) (logged : Bool) (plan : Schedule) where
   -- row by row
   rows-spoilt : (cut : Cut) → Each Spoilt (commitRows S x logged plan cut)
   unfolding commitRows stepRows
-  rows-spoilt cut = (
-    no,
-    (
-      no,
-      (
-        no,
-        (
-          no,
-          (
-            no,
-            (
-              no,
-              (
-                yes,
-                (
-                  no,
-                  (
-                    yes,
-                    (
-                      no,
-                      (
-                        yes,
-                        (
-                          no,
-                          (
-                            no,
-                            (
-                              yes,
-                              (
-                                no,
-                                (
-                                  no,
-                                  (
-                                    yes,
-                                    (
-                                      no,
-                                      (
-                                        no,
-                                        (
-                                          no,
-                                          (
-                                            yes,
-                                            (
-                                              no,
-                                              (
-                                                no,
-                                                (
-                                                  yes,
-                                                  (
-                                                    no,
-                                                    (
-                                                      no,
-                                                      (
-                                                        yes,
-                                                        (
-                                                          no,
-                                                          (
-                                                            no,
-                                                            (
-                                                              yes,
-                                                              (
-                                                                no,
-                                                                (
-                                                                  no,
-                                                                  (
-                                                                    yes,
-                                                                    (
-                                                                      no,
-                                                                      (
-                                                                        yes,
-                                                                        (
-                                                                          no,
-                                                                          (
-                                                                            yes,
-                                                                            (
-                                                                              then-aborted (with S x logged plan (left S x logged plan (whole S x logged plan))),
-                                                                              (
-                                                                                yes,
-                                                                                (
-                                                                                  then-aborted S,
-                                                                                  (
-                                                                                    no,
-                                                                                    (
-                                                                                      yes,
-                                                                                      (
-                                                                                        then-aborted (with S x logged plan (left S x logged plan (whole S x logged plan))),
-                                                                                        (
-                                                                                          yes,
-                                                                                          (
-                                                                                            then-aborted S,
-                                                                                            (
-                                                                                              no,
-                                                                                              (
-                                                                                                among _ (poisons-later (part 17 (removals S x)) (putPoison ∷ []) refl),
-                                                                                                (
-                                                                                                  among _ (poisons-later (removals S x) _ (poisons-later (part 18 (publication x)) (putDoom (x .txid .0) ∷ finish S x logged plan) refl)),
-                                                                                                  (
-                                                                                                    among _ (published _ (poisons-later (part 19 (recycling S x)) (putDoom (x .txid .0) ∷ finish S x logged plan) refl)),
-                                                                                                    (
-                                                                                                      among _ (published _ (poisons-later (recycling S x) (putDoom (x .txid .0) ∷ []) refl)),
-                                                                                                      (among _ (published _ (poisons-later (recycling S x) _ (poisons-later (part 22 (stamping S x)) (putPoison ∷ []) refl))), tt),
-                                                                                                    ),
-                                                                                                  ),
-                                                                                                ),
-                                                                                              ),
-                                                                                            ),
-                                                                                          ),
-                                                                                        ),
-                                                                                      ),
-                                                                                    ),
-                                                                                  ),
-                                                                                ),
-                                                                              ),
-                                                                            ),
-                                                                          ),
-                                                                        ),
-                                                                      ),
-                                                                    ),
-                                                                  ),
-                                                                ),
-                                                              ),
-                                                            ),
-                                                          ),
-                                                        ),
-                                                      ),
-                                                    ),
-                                                  ),
-                                                ),
-                                              ),
-                                            ),
-                                          ),
-                                        ),
-                                      ),
-                                    ),
-                                  ),
-                                ),
-                              ),
-                            ),
-                          ),
-                        ),
-                      ),
-                    ),
-                  ),
-                ),
-              ),
-            ),
-          ),
-        ),
-      ),
-    ),
-  )
+  rows-spoilt cut =
+      let remaining = with S x logged plan (left S x logged plan (whole S x logged plan)) in
+      no ▸ no ▸ no ▸ no ▸ no ▸ no ▸ yes ▸ no ▸ yes ▸ no ▸ yes ▸ no ▸ no ▸ yes ▸ no ▸ no ▸ yes ▸ no ▸ no ▸ no ▸ yes ▸ no ▸ no ▸ yes ▸
+      no ▸ no ▸ yes ▸ no ▸ no ▸ yes ▸ no ▸ no ▸ yes ▸ no ▸ yes ▸ no ▸ yes ▸ then-aborted remaining ▸ yes ▸ then-aborted S ▸ no ▸ yes ▸
+      then-aborted remaining ▸ yes ▸ then-aborted S ▸ no ▸ among _ (poisons-later (part 17 (removals S x)) (putPoison ∷ []) refl) ▸
+      among _ (poisons-later (removals S x) _ (poisons-later (part 18 (publication x)) (putDoom (x .txid .0) ∷ finish S x logged plan) refl)) ▸
+      among _ (published _ (poisons-later (part 19 (recycling S x)) (putDoom (x .txid .0) ∷ finish S x logged plan) refl)) ▸
+      among _ (published _ (poisons-later (recycling S x) (putDoom (x .txid .0) ∷ []) refl)) ▸
+      among _ (published _ (poisons-later (recycling S x) _ (poisons-later (part 22 (stamping S x)) (putPoison ∷ []) refl))) ▸ end
 
   -- every commit
   pub fate-poisons : Sized S → (cut : Cut) → let a = commit S x logged plan cut in spoils (fateIn (a .refusal)) ≡ true → a .store .poisoned ≡ true

@@ -9,7 +9,7 @@ use Rattle.rules.specs.Bools.{clash, and-true, and-both, or-left, or-right}
 use Rattle.rules.specs.Faults.{P, X, Q}
 use Rattle.rules.specs.Numbers.{numberOf, isDone}
 use Rattle.rules.specs.Answer.{commit}
-use Rattle.index.specs.Table.{Says, said}
+use Rattle.index.specs.Table.{Each, end, _▸_, Says, said}
 use Rattle.index.specs.Numbers.{failed, struckBy, stepRows, doneRow, commitRows}
 use Rattle.index.specs.Column.{oneOf, one-is, stepsFailed, unprepared, busyOrYes, callFailed, callPanicked, uncleaned, column}
 use Rattle.laws.specs.Sized.{Sized}
@@ -66,136 +66,21 @@ module _ (S : Store) (x : Tx) (logged : Bool) (plan : Schedule) where
   itself h = h
 
   -- the rows of the steps, one after the other
-  step-reasons : (cut : Cut) → Says (N cut) (stepRows S x logged plan)
+  step-reasons : (cut : Cut) → Each (Says (N cut)) (stepRows S x logged plan)
   unfolding stepRows column
-  step-reasons cut = (
-    four 0,
-    (
-      four 1,
-      (
-        after-5 0,
-        (
-          five 0,
-          (
-            after-5 1,
-            (
-              five 1,
-              (
-                first (logged && s 6 P) (f 23),
-                (
-                  itself,
-                  (
-                    four 2,
-                    (
-                      seven-failed 0,
-                      (
-                        seven 0,
-                        (
-                          four 3,
-                          (
-                            seven-failed 1,
-                            (
-                              seven 1,
-                              (
-                                four 4,
-                                (
-                                  itself,
-                                  (
-                                    after-9,
-                                    (
-                                      itself,
-                                      (
-                                        four 5,
-                                        (
-                                          seven-failed 2,
-                                          (
-                                            seven 2,
-                                            (
-                                              four 6,
-                                              (
-                                                seven-failed 3,
-                                                (
-                                                  seven 3,
-                                                  (
-                                                    four 7,
-                                                    (
-                                                      seven-failed 4,
-                                                      (
-                                                        seven 4,
-                                                        (
-                                                          four 8,
-                                                          (
-                                                            seven-failed 5,
-                                                            (
-                                                              seven 5,
-                                                              (
-                                                                first (f 15) (f 24),
-                                                                (
-                                                                  itself,
-                                                                  (
-                                                                    first (callPanicked S x logged plan) (f 24 && f 23),
-                                                                    (
-                                                                      first (callPanicked S x logged plan) (f 24),
-                                                                      (
-                                                                        first (callPanicked S x logged plan) (f 23),
-                                                                        (
-                                                                          of-two (s 16 Q) (s 16 P),
-                                                                          (
-                                                                            or-two (s 16 Q) (s 16 P),
-                                                                            (
-                                                                              after-11 (f 24 && f 23) (λ h. or-left (f 24) (f 23) (first (f 24) (f 23) h)),
-                                                                              (
-                                                                                after-11 (f 24) (or-left (f 24) (f 23)),
-                                                                                (
-                                                                                  after-11 (f 23) (or-right (f 24) (f 23)),
-                                                                                  (
-                                                                                    of-two (s 16 X) (f 16),
-                                                                                    (or-two (s 16 X) (f 16), (itself, (itself, (itself, (itself, (itself, tt)))))),
-                                                                                  ),
-                                                                                ),
-                                                                              ),
-                                                                            ),
-                                                                          ),
-                                                                        ),
-                                                                      ),
-                                                                    ),
-                                                                  ),
-                                                                ),
-                                                              ),
-                                                            ),
-                                                          ),
-                                                        ),
-                                                      ),
-                                                    ),
-                                                  ),
-                                                ),
-                                              ),
-                                            ),
-                                          ),
-                                        ),
-                                      ),
-                                    ),
-                                  ),
-                                ),
-                              ),
-                            ),
-                          ),
-                        ),
-                      ),
-                    ),
-                  ),
-                ),
-              ),
-            ),
-          ),
-        ),
-      ),
-    ),
-  )
+  step-reasons cut =
+      four 0 ▸ four 1 ▸ after-5 0 ▸ five 0 ▸ after-5 1 ▸ five 1 ▸ first (logged && s 6 P) (f 23) ▸ itself ▸ four 2 ▸ seven-failed 0 ▸
+      seven 0 ▸ four 3 ▸ seven-failed 1 ▸ seven 1 ▸ four 4 ▸ itself ▸ after-9 ▸ itself ▸ four 5 ▸ seven-failed 2 ▸ seven 2 ▸ four 6 ▸
+      seven-failed 3 ▸ seven 3 ▸ four 7 ▸ seven-failed 4 ▸ seven 4 ▸ four 8 ▸ seven-failed 5 ▸ seven 5 ▸ first (f 15) (f 24) ▸
+      itself ▸ first (callPanicked S x logged plan) (f 24 && f 23) ▸ first (callPanicked S x logged plan) (f 24) ▸
+      first (callPanicked S x logged plan) (f 23) ▸ of-two (s 16 Q) (s 16 P) ▸ or-two (s 16 Q) (s 16 P) ▸
+      after-11 (f 24 && f 23) (λ h. or-left (f 24) (f 23) (first (f 24) (f 23) h)) ▸ after-11 (f 24) (or-left (f 24) (f 23)) ▸
+      after-11 (f 23) (or-right (f 24) (f 23)) ▸ of-two (s 16 X) (f 16) ▸ or-two (s 16 X) (f 16) ▸ itself ▸ itself ▸ itself ▸ itself ▸
+      itself ▸ end
 
-  first-reasons : (cut : Cut) → Says (N cut) (commitRows S x logged plan cut)
+  first-reasons : (cut : Cut) → Each (Says (N cut)) (commitRows S x logged plan cut)
   unfolding commitRows column
-  first-reasons cut = (itself, (itself, (itself, (itself, step-reasons cut))))
+  first-reasons cut = itself ▸ itself ▸ itself ▸ itself ▸ step-reasons cut
 
   -- every commit that isn't answered 0: its number is answered for a reason that the paper gives for that number
   pub commit-because : Sized S → (cut : Cut) → let why = commit S x logged plan cut .refusal in isDone why ≡ false → getD (column S x logged plan cut) (numberOf why) false ≡ true

@@ -65,29 +65,30 @@ told-by n before (r ∷ rs) d a z b =
     told-cons n before r rs d (eqb-true (numberOf (r .says)) (r .number) (c .0)) b
     (λ o. told-by n (before ++ r .when ∷ []) rs d (c .1) z (none-more before (r .when) b o))
 
--- where a row applies, a test of its number holds: P is such a test for each number
-abbrev pub Says : (ℕ → Bool) → List Row → Type 0
-Says P [] = Unit {0}
-Says P (r ∷ rs) = (r .when ≡ true → P (r .number) ≡ true) × Says P rs
+-- something that each row has
+infixr 5 _▸_
+pub data Each (Q : Row → Type 0) : List Row → Type 0 where
+  end : Each Q []
+  _▸_ : {r : Row} {rs : List Row} → Q r → Each Q rs → Each Q (r ∷ rs)
 
--- so it holds of the number answered, or no row applied
-pub said : (P : ℕ → Bool) (rs : List Row) (d : Row) → all same rs ≡ true → Says P rs → (firstRow rs d .says ≡ d .says) ⊎ (P (numberOf (firstRow rs d .says)) ≡ true)
-said P [] d a h = inl refl
-said P (r ∷ rs) d a h =
-    let c = and-true (same r) (all same rs) a in
-    by (r .when)
-    (λ o. inr (rw (o, eqb-true (numberOf (r .says)) (r .number) (c .0)) (h .0 o)))
-    (λ o. rw o (said P rs d (c .1) (h .1)))
-
--- what each row has, the first that applies has
-abbrev pub Each : (Row → Type 0) → List Row → Type 0
-Each Q [] = Unit {0}
-Each Q (r ∷ rs) = Q r × Each Q rs
-
+-- .. the first that applies has
 pub each : (Q : Row → Type 0) (rs : List Row) (d : Row) → Each Q rs → Q d → Q (firstRow rs d)
-each Q [] d h z = z
-each Q (r ∷ rs) d h z = go (r .when) (h .0) (each Q rs d (h .1) z)
+each Q _ d end z = z
+each Q _ d (_▸_ {r = r} {rs = rs} h t) z = go (r .when) h (each Q rs d t z)
   where
     go : (b : Bool) → Q r → Q (firstRow rs d) → Q (cond b r (firstRow rs d))
     go true a c = a
     go false a c = c
+
+-- where a row applies, a test of its number holds: P is such a test for each number
+abbrev pub Says : (ℕ → Bool) → Row → Type 0
+Says P r = r .when ≡ true → P (r .number) ≡ true
+
+-- so it holds of the number answered, or no row applied
+pub said : (P : ℕ → Bool) (rs : List Row) (d : Row) → all same rs ≡ true → Each (Says P) rs → (firstRow rs d .says ≡ d .says) ⊎ (P (numberOf (firstRow rs d .says)) ≡ true)
+said P _ d a end = inl refl
+said P _ d a (_▸_ {r = r} {rs = rs} h t) =
+    let c = and-true (same r) (all same rs) a in
+    by (r .when)
+    (λ o. inr (rw (o, eqb-true (numberOf (r .says)) (r .number) (c .0)) (h o)))
+    (λ o. rw o (said P rs d (c .1) t))
