@@ -5,7 +5,7 @@ use super::fate::fate_in;
 use super::sight;
 use super::trial::Trial;
 use admit::store::resting;
-use look::active::is_active;
+use view::txids::is_active;
 use types::Answer;
 use types::Fate;
 use types::Fault;

@@ -1,5 +1,5 @@
 -- `commit_and_recover` meets its contract.
-use Rattle.admit.proofs.Lengths.{sized}
+use Rattle.view.proofs.Lengths.{sized}
 use Rattle.joined.specs.Demands.{survives}
 use borrow.Author.Needs.{needs}
 use Rattle.joined.proofs.Keyed.{keyed}

@@ -1,5 +1,5 @@
 -- `commit_quietly` meets its contract.
-use Rattle.admit.proofs.Lengths.{sized}
+use Rattle.view.proofs.Lengths.{sized}
 use Rattle.joined.specs.Demands.{commits-quietly}
 use borrow.Author.Needs.{needs}
 use Rattle.joined.proofs.Keyed.{keyed}
