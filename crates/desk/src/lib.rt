@@ -4,5 +4,4 @@ mod answer;
 mod fault;
 pub mod feed;
 pub mod held;
-pub mod number;
 pub mod turn;

@@ -5,7 +5,6 @@ use super::fate::fate_in;
 use super::sight;
 use super::trial::Trial;
 use admit::store::resting;
-use view::txids::is_active;
 use types::Answer;
 use types::Fate;
 use types::Fault;
@@ -13,6 +12,7 @@ use types::RowId;
 use types::Store;
 use types::Tx;
 use types::Txid;
+use view::txids::is_active;
 
 fn word(s: &[u8]) {
     io::write_all(1, s);

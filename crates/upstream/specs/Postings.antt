@@ -23,8 +23,7 @@ use Rattle.index.specs.All.{all-append, all-take}
 use Rattle.index.specs.Rising.{mem-into, mem-without, into-length, without-length}
 use Rattle.index.specs.Resting.{in-form}
 use Rattle.index.specs.Posted.{posted, posted-of, posted-own, intoAll, withoutAll, mem-intoAll, mem-withoutAll, intoAll-length, inserted, removed}
-use Rattle.index.specs.Rolled.{take-map}
-use Rattle.index.specs.Undone.{Ready, room, new-destination, undone}
+use Rattle.index.specs.Undone.{Ready, take-map, room, new-destination, undone}
 
 -- transactional_insert and transactional_remove: one posting in or out, and nothing else
 pub insert-one : (c : ℕ) (T : Store) → apply (putInsert c) T ≡ posted (into c (postingsOf T)) T
