@@ -1,5 +1,7 @@
 //! The proved replay, called from Rust.
 
+use std::fs;
+use std::path::Path;
 use std::thread;
 
 use slack::{replay, replay_into, room};
@@ -8,9 +10,33 @@ use slack::{replay, replay_into, room};
 const SCRIPT: &[u8] = b"B\t0\nW\t0\t3\t35\nC\t0\tu\nB\t0\nR\t0\t3\nC\t0\tl\n";
 const ANSWERS: &[u8] = b"1\t0\t1\n2\t0\t1\n3\t0\t8\n4\t0\t2\n5\t0\t35\n6\t0\t3\n";
 
+/// A file of the repository.
+fn file(name: &str) -> Vec<u8> {
+    let path = Path::new(env!("CARGO_MANIFEST_DIR"))
+        .join("../..")
+        .join(name);
+    fs::read(&path).unwrap_or_else(|why| panic!("{}: {why}", path.display()))
+}
+
 #[test]
 fn the_example() {
     assert_eq!(replay(SCRIPT), ANSWERS);
+}
+
+/// What the gate runs the replay program on, and what it must write.
+#[test]
+fn the_program_s_script() {
+    let script = file("crates/replay/stdin");
+    assert!(replay(&script) == file("crates/replay/stdout"));
+}
+
+#[test]
+fn the_scripts_among_the_examples() {
+    for name in ["morning", "conflict", "power-cut"] {
+        let script = file(&format!("examples/{name}.script"));
+        let answers = file(&format!("examples/{name}.out"));
+        assert_eq!(replay(&script), answers, "{name}");
+    }
 }
 
 #[test]
