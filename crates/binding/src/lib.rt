@@ -1,0 +1,46 @@
+// The replay for callers in Rust or C: a script in one buffer, its answers into another. Any buffers will do: no function asks anything of them
+// beyond what the C form of a slice is, a pointer and a length.
+
+ghost use mathlib.Core.Path.{_≡_};
+ghost use Rattle.binding.specs.Room.{roomIn, Replayed};
+use desk::feed::feed;
+use desk::feed::finish;
+use desk::feed::start;
+use script::print::Text;
+
+// The lines whose answers a 64-bit number of bytes can count.
+const LINES: usize = usize::MAX / Text::ROOM;
+
+// So many bytes hold the answers to a script: 63 for each line feed, and 63 more.
+#[no_mangle]
+pub extern "C" fn slack_room(script: &[u8]) -> usize
+    ensures { λ r. ⌜ r ≡ roomIn (now (script .entry)) ⌝ }
+{
+    let mut lines: usize = 1;
+    let mut i: usize = 0;
+    while i < script.len() {
+        if script[i] == b'\n' {
+            lines += 1;
+        }
+        i += 1;
+    }
+    if LINES < lines {
+        return usize::MAX;
+    }
+    lines * Text::ROOM
+}
+
+// Replays a script from the empty store: the answers are the first bytes of `out`, as many as this returns. Without room for them it is 0.
+#[no_mangle]
+pub extern "C" fn slack_replay(script: &[u8], out: &mut [u8]) -> usize
+    ensures { λ r. ⌜ Replayed (now (script .entry)) (now (out .exit)) r ⌝ }
+{
+    if out.len() < slack_room(script) {
+        return 0;
+    }
+    let r = start();
+    let f = feed(r, script, out);
+    let n = f.count;
+    let left = f.replay;
+    n + finish(left, &mut out[n..])
+}
