@@ -12,13 +12,14 @@ use borrow.Author.Tests.{eqb-true}
 use Rattle.types.specs.Limits.{rows, writeLimit}
 use Rattle.types.specs.Zero.{noWrite, onlyTxid}
 use Rattle.rules.specs.Lists.{memb, isZero, pad}
-use Rattle.rules.specs.Types.{Store, Tx, Txid, RowId, SlotPtr, Write, ReadRecord, IndexRead, Schedule, Record, Answer, Cut, Uncut, Value, Fate, Closed}
+use Rattle.rules.specs.Types.{Store, Tx, Txid, RowId, SlotPtr, Write, ReadRecord, IndexRead, Schedule, Record, Answer, Cut, Uncut, Value}
 use Rattle.rules.specs.Store.{valueAt, activeTxids, postingsOf}
 use Rattle.rules.specs.Transaction.{writesOf, readsOf, indexReadsOf, finalWrites, finals, emptied}
 use Rattle.rules.specs.Chains.{walk, on}
 use Rattle.rules.specs.Admitted.{finished, headPostings, resting}
-use Rattle.rules.specs.Numbers.{numberOf, fateIn, isDone}
-use Rattle.rules.specs.Puts.{Put, kStripe, kPartition, kInsert, kRemove, kXmax, kHead, kFree, kDrop, kStamp, kPoison, kDoom, putDrop, applyAll, abortPuts}
+use Rattle.rules.specs.Numbers.{numberOf, isDone}
+use Rattle.rules.specs.Puts.{Put, kStripe, kPartition, kInsert, kRemove, kXmax, kHead, kFree, kDrop, kStamp, kPoison, kDoom, putDrop, applyAll}
+use Rattle.rules.specs.Calls.{abort}
 use Rattle.rules.specs.Changes.{release, insertions, removals, publication, recycling, stamping}
 use Rattle.rules.specs.Commit.{runOf, fails, unloggedWrites}
 use Rattle.rules.specs.Answer.{uncut, commit}
@@ -27,7 +28,7 @@ use Rattle.rules.specs.Only.{only, only-both, kept, is-not}
 use Rattle.rules.specs.Outcome.{conflicting, Passed, guardsTaken, afterInsert, afterRemove, afterPublish, afterRecycle, afterFinish, afterStamp, outcome}
 use Rattle.rules.specs.TestLaws.{Some, LockedByAnother, Stale, either, index-reads-say, row-locks-say, serialization-says, write-bases-say}
 use Rattle.rules.specs.Rows.{Admitted, success, whole, only-done}
-use Rattle.rules.specs.Aftermath.{abortNumber, row-0, row-aborted}
+use Rattle.rules.specs.Aftermath.{row-0}
 use Rattle.laws.specs.Sized.{Sized}
 use Rattle.index.specs.Kinds.{taken-kinds, release-kinds, insertions-kind, removals-kind, publication-kinds, recycling-kind, stamping-kind}
 use Rattle.index.specs.Healthy.{row-0-exact}
@@ -41,6 +42,7 @@ use Rattle.heart.specs.Resting.{Rests, rests}
 use Rattle.heart.specs.Recovery.{Keyed}
 use Rattle.heart.specs.Again.{commit-rests, stood}
 use Rattle.keeps.specs.Active.{unfinished-is}
+use Rattle.keeps.specs.CommitAborts.{Freed, abortedNumber, commit-aborts, abort-call}
 use Rattle.demands.specs.Demand3.{rowValue, with-same}
 
 -- on an unpoisoned resting store a txid that is not active has no slot off the chains
@@ -144,9 +146,11 @@ module _ (S : Store) (x : Tx) (logged : Bool) (plan : Schedule) where
           lists = left .0;
         }
 
--- "Each abort that neither fault nor cut strikes truly frees and deregisters": 5, 6, 7 and 9 with no fault at 23, whatever the cut; what the
--- aborted store has is said by `abort-aborts` (crate `keeps`) of the call, whose stores are the same
-pub demand-2-aborts : (S : Store) (x : Tx) (logged : Bool) (plan : Schedule) (cut : Cut) → Admitted S x plan → let a = commit S x logged plan cut in
-    abortNumber S x logged plan (numberOf (a .refusal)) ≡ true → fails S x logged plan 23 ≡ false
-    → (a .store ≡ applyAll (abortPuts S (x .txid .0)) S) × (a .tx ≡ onlyTxid (x .txid .0)) × (fateIn (a .refusal) ≡ Closed)
-demand-2-aborts S x logged plan cut ok h f = row-aborted S x logged plan cut ok h f
+-- "Each abort that neither fault nor cut strikes truly frees and deregisters": the aborts inside commit (5, 6, 7, 9, 11, 12, and 19 where only the
+-- rollback failed), whatever the cut allows to be answered, and the call's own
+pub demand-2-aborts : (S : Store) (x : Tx) (logged : Bool) (plan : Schedule) (cut : Cut) → Sized S → Admitted S x plan → fails S x logged plan 23 ≡ false → let a = commit S x logged plan cut in
+    abortedNumber S x logged plan (numberOf (a .refusal)) ≡ true → Freed S (x .txid .0) (a .store) × (a .tx ≡ onlyTxid (x .txid .0))
+demand-2-aborts S x logged plan cut z ok f h = commit-aborts S x logged plan cut z ok f h
+
+pub demand-2-abort : (S : Store) (x : Tx) → Sized S → numberOf (abort S x .refusal) ≡ 0 → Freed S (x .txid .0) (abort S x .store) × (abort S x .tx ≡ onlyTxid (x .txid .0))
+demand-2-abort S x z h = abort-call S x z h

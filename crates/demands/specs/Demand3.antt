@@ -1,11 +1,13 @@
 -- Demand 3: stop a commit after any store, or fail or panic any step that may; then recover.
 use mathlib.Core.Path.{_≡_, refl, sym, ap, _∙_, subst}
-use mathlib.Core.Bool.{Bool, true, false, not, cond, _&&_}
+use mathlib.Core.Bool.{Bool, true, false, not, cond, _&&_, _||_}
 use mathlib.Core.List.{List, [], _∷_}
 use Prim.Native.Nat.{ℕ, _<_}
+use native.Mathlib.Omega.{arith}
 use lib.ListN.{length, getD, take}
 use lib.Seq.{take-length}
-use lib.Dec.{eqb}
+use lib.Dec.{eqb, leb}
+use borrow.Author.Tests.{leb-false, lt-leb}
 use Rattle.types.specs.Limits.{rows}
 use Rattle.rules.specs.Lists.{memb}
 use Rattle.rules.specs.Types.{Store, Tx, Txid, RowId, SlotPtr, Write, Schedule, Answer, Cut, Uncut, After, Value, Open, Closed, Refusal, Done, Unfit, NotActive}
@@ -14,12 +16,13 @@ use Rattle.rules.specs.Transaction.{finals}
 use Rattle.rules.specs.Admitted.{repairable, resting}
 use Rattle.rules.specs.Fit.{fit}
 use Rattle.rules.specs.Faults.{scheduleFit}
-use Rattle.rules.specs.Puts.{applyAll}
-use Rattle.rules.specs.Commit.{runOf}
+use Rattle.rules.specs.Puts.{Put, applyAll}
+use Rattle.rules.specs.Commit.{End, runOf}
 use Rattle.rules.specs.Answer.{uncut, unchanged, commit}
 use Rattle.rules.specs.Recovery.{recovered, recover}
 use Rattle.rules.specs.Bools.{by, and-true}
-use Rattle.rules.specs.Rows.{Admitted, row-2, row-3, admitted}
+use Rattle.rules.specs.Outcome.{unremoved, unpublished, unrecycled, unfinished, Outcome, done, stays, aborts, uninserted, uncalled, spoils, unstamped, outcome}
+use Rattle.rules.specs.Rows.{Admitted, row-2, row-3, admitted, stay-not, abort-not, called-not}
 use Rattle.laws.specs.Sized.{Sized}
 use Rattle.laws.specs.Parts.{resting-parts}
 use Rattle.heart.specs.Sizes.{sized-all}
@@ -59,6 +62,10 @@ with-same key has [] f g h r lt = h r lt
 with-same key has (w ∷ ws) f g h r lt =
     with-same key has ws (λ q. cond (eqb q (w .row .0)) (valueAt key has (w .new .0)) (f q)) (λ q. cond (eqb q (w .row .0)) (valueAt key has (w .new .0)) (g q))
     (λ q l. rw (h q l)) r lt
+
+-- the numbers of a commit that stands
+abbrev standing : ℕ → Bool
+standing n = eqb n 0 || eqb n 17
 
 module _ (S : Store) (x : Tx) (logged : Bool) (plan : Schedule) (z : Sized S) (k : Keyed S) (rest : resting S ≡ true) where
   mends : repairable S ≡ true
@@ -110,6 +117,24 @@ module _ (S : Store) (x : Tx) (logged : Bool) (plan : Schedule) (z : Sized S) (k
       left cut (record { rests = rest; fits = c .0; planned = c .1; active = m }))
       (λ m. rw (row-3 S x logged plan cut rest f m) (kept (NotActive Closed) (row-3 S x logged plan Uncut rest f m) refl)))
       (λ f. rw (row-2 S x logged plan cut rest f) (kept (Unfit Open) (row-2 S x logged plan Uncut rest f) refl))
+
+  -- `survived` in the words of the steps: the run passes step 21, so neither publication (18) nor recycling (19) failed, and step 21's store, the
+  -- drop of the txid, is made
+  passed-says : (n : ℕ) (ps : List Put) (d : End) → Outcome S x logged plan n ps d → stands (d .refusal) ≡ leb 21 n
+  passed-says _ _ _ (done p) = refl
+  passed-says n _ _ (stays l t k) = rw (stay-not standing refl refl k Open, lt-leb 21 n (omega (arith, leb-false 14 n l)))
+  passed-says n _ _ (aborts l t k) = rw (abort-not standing refl refl refl refl refl k, lt-leb 21 n (omega (arith, leb-false 14 n l)))
+  passed-says _ _ _ (uninserted p k) = refl
+  passed-says _ _ _ (uncalled p l k) = called-not S x logged plan standing refl refl refl
+  passed-says _ _ _ (spoils p (unremoved k)) = refl
+  passed-says _ _ _ (spoils p (unpublished k)) = refl
+  passed-says _ _ _ (spoils p (unrecycled k)) = refl
+  passed-says _ _ _ (spoils p (unfinished k)) = refl
+  passed-says _ _ _ (unstamped p k) = refl
+
+  pub survived-says : Admitted S x plan → (D : Store) → survived S x logged plan D ≡ (leb 21 (runOf S x logged plan .passed) && not (memb (x .txid .0) (activeTxids (D .active))))
+  unfolding uncut
+  survived-says ok D = rw (ap (λ (a : Answer). a .refusal) (admitted S x logged plan Uncut ok), passed-says _ _ _ (outcome S x logged plan))
 
 -- "recovery of a repairable store gives a resting, unpoisoned one, and a second recovery changes nothing"
 pub twice : (S : Store) → Sized S → Keyed S → repairable S ≡ true → recover (recover S .store) .store ≡ recover S .store

@@ -127,7 +127,7 @@ module _ (S : Store) (L : ℕ → List ℕ) (R : Rests S L) (healthy : S .poison
   settled : (v : ℕ) → (h v ≡ false → v ≡ S .doomed) → h v ≡ true
   settled v k = by (h v) (λ e. e) (λ e. clash (rw (k e ∙ R .undoomed healthy) (zero-finished (S .active) (S .doomed))) e)
 
-  tails : (r : ℕ) → r < length (S .heads) → Tail (S .xmin) (S .xmax) h 0 (L r)
+  pub tails : (r : ℕ) → r < length (S .heads) → Tail (S .xmin) (S .xmax) h 0 (L r)
   tails r lt = good-rests (S .xmin) (S .xmax) h (L r) (λ y m. settled (getD (S .xmin) y 0) (R .created r y lt m)) (λ y m. settled (getD (S .xmax) y 0) (R .ended r y lt m)) (R .mends .stands .versions r lt)
 
   nobody : (who : ℕ) → Sole (S .heads) (S .xmin) (S .xmax) h L who

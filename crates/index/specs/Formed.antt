@@ -27,8 +27,8 @@ use Rattle.index.specs.All.{all-get, all-take}
 use Rattle.index.specs.Pair.{below-key}
 use Rattle.index.specs.Resting.{in-form}
 use Rattle.index.specs.Written.{changed, side-all}
-use Rattle.index.specs.Undone.{Ready, rows-fit, room}
-use Rattle.index.specs.Rolled.{take-map, ready}
+use Rattle.index.specs.Undone.{Ready, take-map, rows-fit, room}
+use Rattle.index.specs.Rolled.{ready}
 use Rattle.index.specs.Kinds.{index-kind, taken-kinds, release-kinds, removals-kind, publication-kinds, recycling-kind, stamping-kind, cleaning-kinds, rollback-kinds, finish-kind}
 use Rattle.index.specs.Form.{small, form-short, inserts, form-along, inserts-append, inserts-none, inserts-all, inserts-take}
 

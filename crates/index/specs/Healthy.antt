@@ -24,7 +24,8 @@ use Rattle.index.specs.Bools.{or-assoc, or-swap}
 use Rattle.index.specs.Resting.{Exact, Settled, exact, undoomed, settled}
 use Rattle.index.specs.Kept.{exact-kept, exact-freed}
 use Rattle.index.specs.Spared.{head-not-own}
-use Rattle.index.specs.Rolled.{take-map, ready, back-and-forth, called-run}
+use Rattle.index.specs.Undone.{take-map}
+use Rattle.index.specs.Rolled.{ready, back-and-forth, called-run}
 use Rattle.index.specs.Clean.{postings-exact}
 
 -- a poison among the puts, doom included
@@ -41,7 +42,7 @@ poisoned-after [] S = refl
 poisoned-after (p ∷ ps) S = poisoned-after ps (apply p S) ∙ or-four (is p kPoison) (is p kDoom) (poisons ps) (S .poisoned)
 
 -- a poison in either of two lists
-poisons-later : (ps qs : List Put) → poisons qs ≡ true → poisons (ps ++ qs) ≡ true
+pub poisons-later : (ps qs : List Put) → poisons qs ≡ true → poisons (ps ++ qs) ≡ true
 poisons-later [] qs h = h
 poisons-later (p ∷ ps) qs h = or-right (is p kPoison || is p kDoom) (poisons (ps ++ qs)) (poisons-later ps qs h)
 

@@ -23,6 +23,16 @@ pub mod Clean
 pub mod Healthy
 pub mod Form
 pub mod Formed
+-- "Numbers seen" as one table, and that every commit answers by it.
+pub mod Table
+pub mod Numbers
+pub mod Column
+pub mod Ended
+pub mod Called
+pub mod Stored
+pub mod Seen
+pub mod Reasons
+pub mod Fates
 -- All calls.
 pub mod Lookup
 pub mod Calls

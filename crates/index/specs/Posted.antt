@@ -1,7 +1,7 @@
 -- What insertions and removals make of a store: its postings changed, and nothing else.
 use mathlib.Core.Path.{_≡_, refl, sym, ap, _∙_}
 use mathlib.Core.Bool.{true, false, not, _&&_, _||_}
-use mathlib.Core.List.{List, [], _∷_, _++_, map, reverse, reverse-cons}
+use mathlib.Core.List.{List, [], _∷_, _++_, map, reverse, reverse-cons, map-append}
 use Prim.Native.Nat.{ℕ, _+_, _≤_}
 use native.Mathlib.Omega.{arith}
 use lib.ListN.{length}
@@ -14,6 +14,7 @@ use Rattle.rules.specs.Bools.{by, every-cons}
 use Rattle.rules.specs.Lists.{memb, rising, into, without, isZero, pad}
 use Rattle.rules.specs.Store.{postingsOf, postingsInForm}
 use Rattle.rules.specs.Puts.{putInsert, putRemove, applyAll}
+use Rattle.rules.specs.Guards.{applyAll-append}
 use Rattle.index.specs.Bools.{or-none, or-assoc, or-comm, or-swap, not-either}
 use Rattle.index.specs.Rising.{mem-into, rising-into, mem-without, rising-without, rising-ext, into-length, without-length}
 use Rattle.index.specs.Packed.{take-pad, pad-take}
@@ -94,19 +95,31 @@ mem-reverse : (l : List ℕ) (p : ℕ) → memb p (reverse l) ≡ memb p l
 mem-reverse [] p = refl
 mem-reverse (x ∷ l) p = rw (reverse-cons x l, mem-append (reverse l) (x ∷ []) p, mem-reverse l p, or-none (eqb p x)) (or-comm (memb p l) (eqb p x))
 
--- new postings put in, and taken out in reverse, leave the store as it was
-pub put-back : (cs : List ℕ) (S : Store) → length (S .postings) ≡ postingLimit → postingsInForm S ≡ true
-    → ((p : ℕ) → memb p cs ≡ true → memb p (postingsOf S) ≡ false) → length cs + length (postingsOf S) ≤ postingLimit
-    → applyAll (map putRemove (reverse cs)) (applyAll (map putInsert cs) S) ≡ S
-put-back cs S long form new room =
-    let l = postingsOf S in
-    let own = posted-own S long form in
-    let up = form-rising S form in
+-- new postings put in, and taken out in reverse, leave the postings as they were
+put-back-in : (cs l : List ℕ) (S : Store) → rising 0 l ≡ true → ((p : ℕ) → memb p cs ≡ true → memb p l ≡ false) → length cs + length l ≤ postingLimit
+    → applyAll (map putRemove (reverse cs)) (applyAll (map putInsert cs) (posted l S)) ≡ posted l S
+put-back-in cs l S up new room =
     let more = intoAll-length cs l in
     let back = rising-ext 0 0 (withoutAll (reverse cs) (intoAll cs l)) l (rising-withoutAll (reverse cs) (intoAll cs l) (rising-intoAll cs l up)) up
     (λ p. mem-withoutAll (reverse cs) (intoAll cs l) p ∙ rw (mem-intoAll cs l p, mem-reverse cs p) (by (memb p cs) (λ e. rw e (sym (new p e))) (λ e. rw e))) in
-    ap (λ (T : Store). applyAll (map putRemove (reverse cs)) (applyAll (map putInsert cs) T)) (sym own)
-    ∙ ap (applyAll (map putRemove (reverse cs))) (inserted cs l S room)
+    ap (applyAll (map putRemove (reverse cs))) (inserted cs l S room)
     ∙ removed (reverse cs) (intoAll cs l) S (omega arith)
     ∙ ap (λ (m : List ℕ). posted m S) back
-    ∙ own
+
+-- .. of a store in its form, where some were put in before and stay
+pub put-back-but : (bs cs : List ℕ) (S : Store) → length (S .postings) ≡ postingLimit → postingsInForm S ≡ true
+    → ((p : ℕ) → memb p cs ≡ true → (memb p bs ≡ false) × (memb p (postingsOf S) ≡ false)) → length bs + length cs + length (postingsOf S) ≤ postingLimit
+    → applyAll (map putRemove (reverse cs)) (applyAll (map putInsert (bs ++ cs)) S) ≡ applyAll (map putInsert bs) S
+put-back-but bs cs S long form new room =
+    let l = postingsOf S in
+    let own = posted-own S long form in
+    let more = intoAll-length bs l in
+    let put : applyAll (map putInsert bs) S ≡ posted (intoAll bs l) S = ap (applyAll (map putInsert bs)) (sym own) ∙ inserted bs l S (omega arith) in
+    rw (map-append putInsert bs cs, applyAll-append (map putInsert bs) (map putInsert cs) S, put)
+    (put-back-in cs (intoAll bs l) S (rising-intoAll bs l (form-rising S form)) (λ p m. rw (mem-intoAll bs l p, new p m .0) (new p m .1)) (omega arith))
+
+-- .. and leave the store as it was
+pub put-back : (cs : List ℕ) (S : Store) → length (S .postings) ≡ postingLimit → postingsInForm S ≡ true
+    → ((p : ℕ) → memb p cs ≡ true → memb p (postingsOf S) ≡ false) → length cs + length (postingsOf S) ≤ postingLimit
+    → applyAll (map putRemove (reverse cs)) (applyAll (map putInsert cs) S) ≡ S
+put-back cs S long form new room = put-back-but [] cs S long form (λ p m. (refl, new p m)) (omega arith)

@@ -22,17 +22,11 @@ use Rattle.rules.specs.Released.{unguarded}
 use Rattle.rules.specs.Rows.{Admitted, whole, stay-not, abort-not, called-not, spoil-not}
 use Rattle.laws.specs.Sized.{Sized}
 use Rattle.index.specs.Kinds.{insert-kind, remove-kind, abort-kinds}
-use Rattle.index.specs.Undone.{Ready, undone}
+use Rattle.index.specs.Undone.{Ready, take-map, undone}
 use Rattle.index.specs.Aside.{postingKinds, between-guards, poison-first}
 
--- a prefix of a mapped list
-pub take-map {ℓ κ} : {A : Type ℓ} {B : Type κ} (f : A → B) (n : ℕ) (l : List A) → take n (map f l) ≡ map f (take n l)
-take-map f zero l = refl
-take-map f (suc n) [] = refl
-take-map f (suc n) (a ∷ l) = ap (λ m. f a ∷ m) (take-map f n l)
-
 -- guards, then the rest of a run that failed at 16, then guards
-regroup : (G I C R A Z : List Put) → (G ++ I) ++ (C ++ (R ++ (A ++ Z))) ≡ G ++ (((I ++ (C ++ R)) ++ A) ++ Z)
+pub regroup : (G I C R A Z : List Put) → (G ++ I) ++ (C ++ (R ++ (A ++ Z))) ≡ G ++ (((I ++ (C ++ R)) ++ A) ++ Z)
 regroup G I C R A Z = simp append-assoc
 
 -- "poisoned and undone where another call poisons; closed .. where the transaction was aborted"
@@ -91,7 +85,7 @@ module _ (S : Store) (x : Tx) (logged : Bool) (plan : Schedule) (sized : Sized S
   calledBack = cond (worse S x logged plan) (putPoison ∷ []) []
 
   -- put in, poisoned or not, taken out: the poison is left
-  undone-around : Ready S x → (b : Bool) → let ds = destinations (changes S x) in
+  pub undone-around : Ready S x → (b : Bool) → let ds = destinations (changes S x) in
       applyAll (map putInsert ds ++ (cond b (putPoison ∷ []) [] ++ map putRemove (reverse ds))) S ≡ applyAll (cond b (putPoison ∷ []) []) S
   undone-around ok b =
       let ds = destinations (changes S x) in

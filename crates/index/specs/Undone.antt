@@ -1,15 +1,15 @@
 -- "insertions undone": what step 15 put in, and rollback takes out in reverse, leaves the store as it was.
-use mathlib.Core.Path.{_≡_, refl, sym, _∙_}
+use mathlib.Core.Path.{_≡_, refl, sym, ap, _∙_}
 use mathlib.Core.Bool.{Bool, true, false, not, _&&_}
-use mathlib.Core.List.{List, [], _∷_, map, reverse}
+use mathlib.Core.List.{List, [], _∷_, _++_, map, reverse, reverse-append, reverse-reverse}
 use Prim.Native.Nat.{ℕ, zero, suc, _+_, _≤_}
 use native.Mathlib.Omega.{arith}
-use lib.ListN.{length, getD, take, length-take}
+use lib.ListN.{length, getD, take, drop, length-take, length-append, take-append-drop}
 use lib.Dec.{eqb, ltb}
 use borrow.Author.Tests.{eqb-true, leb-true, not-true}
 use Rattle.types.specs.Limits.{rows, postingLimit, writeLimit}
 use Rattle.rules.specs.Types.{Store, Tx, Value, Key, Write}
-use Rattle.rules.specs.Bools.{by, clash, and-true, and-false, or-true, or-left, or-right, every-cons}
+use Rattle.rules.specs.Bools.{by, clash, and-true, and-false, or-true, or-false, or-left, or-right, every-cons}
 use Rattle.rules.specs.Lists.{all, memb}
 use Rattle.rules.specs.Store.{keyOf, rowOf, valueAt, sameValue, postingsOf}
 use Rattle.rules.specs.Transaction.{writesOf, finals}
@@ -18,7 +18,7 @@ use Rattle.rules.specs.Admitted.{resting}
 use Rattle.rules.specs.Fit.{countsFit, writeFit, fit}
 use Rattle.rules.specs.Tests.{writeBaseConflict}
 use Rattle.rules.specs.Changes.{changes, destinations}
-use Rattle.rules.specs.Puts.{putInsert, putRemove, applyAll}
+use Rattle.rules.specs.Puts.{Put, putInsert, putRemove, applyAll}
 use Rattle.index.specs.Rising.{unique}
 use Rattle.laws.specs.Finals.{finals-all}
 use Rattle.laws.specs.Sized.{Sized}
@@ -26,7 +26,7 @@ use Rattle.index.specs.All.{all-then, none-fails}
 use Rattle.index.specs.Pair.{posting-of, row-small}
 use Rattle.index.specs.Heads.{same-value, value-same, head-member, heads-length}
 use Rattle.index.specs.Resting.{in-form, exact}
-use Rattle.index.specs.Posted.{put-back}
+use Rattle.index.specs.Posted.{mem-append, put-back-but, put-back}
 use Rattle.index.specs.Written.{rowsOf, finals-length, finals-once, pick, changed, side-length, mem-side, side-once}
 
 -- a commit that got past its tests: the store rests and isn't poisoned, the transaction is fit, test 14 said no; the arrays have their declared lengths
@@ -37,12 +37,27 @@ pub record Ready (S : Store) (x : Tx) : Type 0 where
   pub agreed : writeBaseConflict (S .heads) x ≡ false
   pub sized : Sized S
 
+-- a prefix of a mapped list
+pub take-map {ℓ κ} : {A : Type ℓ} {B : Type κ} (f : A → B) (n : ℕ) (l : List A) → take n (map f l) ≡ map f (take n l)
+take-map f zero l = refl
+take-map f (suc n) [] = refl
+take-map f (suc n) (a ∷ l) = ap (λ m. f a ∷ m) (take-map f n l)
+
 -- a member of a prefix
 mem-take : (n : ℕ) (l : List ℕ) (p : ℕ) → memb p (take n l) ≡ true → memb p l ≡ true
 mem-take zero l p m = clash {b = false} m refl
 mem-take (suc n) [] p m = m
 mem-take (suc n) (x ∷ l) p m =
     or-true (eqb p x) (memb p (take n l)) m (λ e. or-left (eqb p x) (memb p l) e) (λ e. or-right (eqb p x) (memb p l) (mem-take n l p e))
+
+-- two lists in one where no number stands twice
+unique-append : (a b : List ℕ) → unique (a ++ b) ≡ true → (unique a ≡ true) × ((p : ℕ) → memb p b ≡ true → memb p a ≡ false)
+unique-append [] b h = (refl, λ p m. refl)
+unique-append (x ∷ a) b h =
+    let c = and-true (not (memb x (a ++ b))) (unique (a ++ b)) h in
+    let r = unique-append a b (c .1) in
+    let o = or-false (memb x a) (memb x b) (sym (mem-append a b x) ∙ not-true (memb x (a ++ b)) (c .0)) in
+    (rw (o .0) (r .0), λ p m. by (eqb p x) (λ e. clash m (rw (eqb-true p x e) (o .1))) (λ e. rw e (r .1 p m)))
 
 -- a change's new value is not the base's
 differs : (v w : Value) (k : ℕ) → (not (sameValue v w) && sameValue w (Key k)) ≡ true → sameValue v (Key k) ≡ false
@@ -118,3 +133,23 @@ module _ (S : Store) (x : Tx) (ok : Ready S x) where
   undone n =
       let ds = destinations (changes S x) in
       put-back (take n ds) S (ok .sized .postings) (in-form S (ok .rests)) (λ p m. new-destination p (mem-take n ds p m)) (omega (arith, room, length-take n ds))
+
+  -- the last k of them undone alone: those before are left
+  pub undone-but : (n k : ℕ) → let ds = take n (destinations (changes S x)) in
+      applyAll (take k (map putRemove (reverse ds))) (applyAll (map putInsert ds) S) ≡ applyAll (map putInsert (reverse (drop k (reverse ds)))) S
+  undone-but n k =
+      let all = destinations (changes S x) in
+      let ds = take n all in
+      let kept = reverse (drop k (reverse ds)) in
+      let back = reverse (take k (reverse ds)) in
+      let parts : kept ++ back ≡ ds = sym (reverse-append (take k (reverse ds)) (drop k (reverse ds))) ∙ ap reverse (take-append-drop k (reverse ds)) ∙ reverse-reverse ds in
+      let apart = unique-append ds (drop n all) (ap unique (take-append-drop n all) ∙ destinations-once) .0 in
+      let once = unique-append kept back (ap unique parts ∙ apart) .1 in
+      let whole = ap length parts in
+      let I = applyAll (map putInsert ds) S in
+      ap (λ (rs : List Put). applyAll rs I) (take-map putRemove k (reverse ds))
+      ∙ ap (λ (rs : List ℕ). applyAll (map putRemove rs) I) (sym (reverse-reverse (take k (reverse ds))))
+      ∙ ap (λ (es : List ℕ). applyAll (map putRemove (reverse back)) (applyAll (map putInsert es) S)) (sym parts)
+      ∙ put-back-but kept back S (ok .sized .postings) (in-form S (ok .rests))
+      (λ p m. (once p m, new-destination p (mem-take n all p (ap (memb p) (sym parts) ∙ mem-append kept back p ∙ or-right (memb p kept) (memb p back) m))))
+      (omega (arith, room, length-take n all, length-append kept back, whole))

@@ -33,7 +33,7 @@ use Rattle.keeps.specs.Near.{Alike, chains-near, postings-near, led-near
 use Rattle.keeps.specs.Keeps.{same-postings, same-posted}
 
 -- an array with the named places blank
-abbrev wiped : {A : Type 0} → A → List ℕ → List A → List A
+abbrev pub wiped : {A : Type 0} → A → List ℕ → List A → List A
 wiped z [] l = l
 wiped z (p ∷ ps) l = wiped z ps (set l p z)
 
@@ -65,7 +65,7 @@ module _ {A : Type 0} (z : A) where
   wiped-length (p ∷ ps) l = wiped-length ps (set l p z) ∙ length-set l p z
 
 -- the store with slots freed and another active list
-abbrev emptied : List ℕ → List ℕ → Store → Store
+abbrev pub emptied : List ℕ → List ℕ → Store → Store
 emptied ps act S = record { heads = S .heads; xmin = wiped 0 ps (S .xmin); xmax = wiped 0 ps (S .xmax); next = wiped 0 ps (S .next); key = wiped 0 ps (S .key); has = wiped false ps (S .has); locked = wiped false ps (S .locked); owner = wiped 0 ps (S .owner); postings = S .postings; «posting_count» = S .«posting_count»; «stripe_guards» = S .«stripe_guards»; «partition_guards» = S .«partition_guards»; stamps = S .stamps; active = act; clock = S .clock; poisoned = S .poisoned; doomed = S .doomed; bound = S .bound }
 
 -- freeing slots leaves that store
@@ -74,11 +74,11 @@ freed-is [] S = refl
 freed-is (p ∷ ps) S = freed-is ps (apply (putFree p) S)
 
 -- the txid's off-chain slots
-abbrev ownOf : Store → ℕ → List ℕ
+abbrev pub ownOf : Store → ℕ → List ℕ
 ownOf S t = ownSlots (S .heads) (S .next) (S .xmin) t
 
 -- so do abort's stores: its own slots freed, the txid dropped
-aborted-is : (S : Store) (t : ℕ) → applyAll (abortPuts S t) S ≡ emptied (ownOf S t) (dropped (S .active) t) S
+pub aborted-is : (S : Store) (t : ℕ) → applyAll (abortPuts S t) S ≡ emptied (ownOf S t) (dropped (S .active) t) S
 unfolding abortPuts
 aborted-is S t = applyAll-append (map putFree (ownOf S t)) (putDrop t ∷ []) S ∙ rw (freed-is (ownOf S t) S)
 
@@ -103,7 +103,7 @@ pub record SameSlot (S T : Store) (p : ℕ) : Type 0 where
   pub owner : getD (T .owner) p 0 ≡ getD (S .owner) p 0
 
 -- a freed slot is all zero, any other as it was
-wiped-all : (ps act : List ℕ) (S : Store) (p : ℕ) → memb p ps ≡ true → Blank (emptied ps act S) p
+pub wiped-all : (ps act : List ℕ) (S : Store) (p : ℕ) → memb p ps ≡ true → Blank (emptied ps act S) p
 wiped-all ps act S p m = record { xmin = wiped-in 0 ps (S .xmin) p m; xmax = wiped-in 0 ps (S .xmax) p m; next = wiped-in 0 ps (S .next) p m; key = wiped-in 0 ps (S .key) p m; has = wiped-in false ps (S .has) p m; locked = wiped-in false ps (S .locked) p m; owner = wiped-in 0 ps (S .owner) p m }
 
 wiped-none : (ps act : List ℕ) (S : Store) (p : ℕ) → memb p ps ≡ false → SameSlot S (emptied ps act S) p
@@ -128,7 +128,7 @@ module _ (S : Store) (L : ℕ → List ℕ) (z : Sized S) (R : Rests S L) (t : �
   some e = omega (arith, e, txid-positive S L z R t a)
 
   -- who is among the own slots
-  own-is : (p : ℕ) → memb p own ≡ (used (S .xmin) p && (eqb (getD (S .xmin) p 0) t && not (on (walk (S .heads) (S .next) .seen) p)))
+  pub own-is : (p : ℕ) → memb p own ≡ (used (S .xmin) p && (eqb (getD (S .xmin) p 0) t && not (on (walk (S .heads) (S .next) .seen) p)))
   unfolding ownSlots
   own-is p = mem-those (λ q. eqb (getD (S .xmin) q 0) t && not (on (walk (S .heads) (S .next) .seen) q)) (usedSlots (S .xmin)) p ∙ rw (mem-nonzero (S .xmin) p)
 

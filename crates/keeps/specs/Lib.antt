@@ -22,6 +22,7 @@ pub mod Stamps
 pub mod Lookup
 pub mod RowLock
 pub mod Abort
+pub mod CommitAborts
 -- All of them.
 pub mod Others
 pub mod Always

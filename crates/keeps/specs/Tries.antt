@@ -9,7 +9,7 @@ use borrow.Author.Tests.{eqb-true, eqb-false, eq-eqb, not-true}
 use Rattle.rules.specs.Lists.{all, memb}
 use Rattle.rules.specs.Types.{Refusal}
 use Rattle.rules.specs.Numbers.{numberOf, Try, refuse, tries, isDone}
-use Rattle.rules.specs.Bools.{by, clash, and-true, and-both, or-false, mem-here, mem-there}
+use Rattle.rules.specs.Bools.{by, clash, and-true, and-both, or-false, mem-here, mem-there, None, none-more, none-less}
 use Rattle.index.specs.Rising.{unique}
 
 -- a line of "Numbers seen": the number, the refusal with its fate inside, and when it applies
@@ -20,11 +20,6 @@ pub record Line : Type 0 where
 
 abbrev pub line : ℕ → Refusal → Bool → Line
 line n why b = record { number = n; says = why; when = b }
-
--- none of these tests holds
-abbrev pub None : List Bool → Type 0
-None [] = Unit {0}
-None (b ∷ bs) = (b ≡ false) × None bs
 
 -- an answer is as the lines say: a line's number is given exactly where the line applies and none before it does, and then it is the line's
 -- refusal with its fate; 0 is given exactly where none applies
@@ -57,15 +52,6 @@ numbered-cons l ls h =
     let b = and-true (same l) (all same ls) (a .0) in
     let c = and-true (not (memb (l .number) (numbersOf ls))) (unique (numbersOf ls)) (a .1) in
     (eqb-true (numberOf (l .says)) (l .number) (b .0), not-true (memb (l .number) (numbersOf ls)) (c .0), and-both (all same ls) (unique (numbersOf ls)) (b .1) (c .1))
-
--- one test more
-none-more : (bs : List Bool) (b : Bool) → None bs → b ≡ false → None (bs ++ b ∷ [])
-none-more [] b n e = (e, tt)
-none-more (c ∷ bs) b n e = (n .0, none-more bs b (n .1) e)
-
-none-less : (bs : List Bool) (b : Bool) → None (bs ++ b ∷ []) → None bs × (b ≡ false)
-none-less [] b n = (tt, n .0)
-none-less (c ∷ bs) b n = let r = none-less bs b (n .1) in ((n .0, r .0), r .1)
 
 -- no other number is given
 given : (ls : List Line) → numbered ls ≡ true → memb (numberOf (tries (triesOf ls))) (numbersOf ls) ≡ true

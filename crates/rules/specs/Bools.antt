@@ -1,7 +1,7 @@
 -- Case splits on a test, and what a test that holds says of its parts.
 use mathlib.Core.Path.{_≡_, refl}
 use mathlib.Core.Bool.{Bool, true, false, _&&_, _||_}
-use mathlib.Core.List.{List, [], _∷_}
+use mathlib.Core.List.{List, [], _∷_, _++_}
 use Prim.Native.Nat.{ℕ}
 use native.Mathlib.Omega.{arith}
 use lib.Dec.{eqb}
@@ -75,3 +75,16 @@ mem-there y x l m = or-right (eqb y x) (memb y l) m
 -- a member and a non-member differ
 pub mem-ne : (y x : ℕ) (l : List ℕ) → memb y l ≡ true → memb x l ≡ false → y ≡ x → ⊥
 mem-ne y x l m n e = clash m (rw e n)
+
+-- none of these tests holds
+abbrev pub None : List Bool → Type 0
+None [] = Unit {0}
+None (b ∷ bs) = (b ≡ false) × None bs
+
+pub none-more : (bs : List Bool) (b : Bool) → None bs → b ≡ false → None (bs ++ b ∷ [])
+none-more [] b n e = (e, tt)
+none-more (c ∷ bs) b n e = (n .0, none-more bs b (n .1) e)
+
+pub none-less : (bs : List Bool) (b : Bool) → None (bs ++ b ∷ []) → None bs × (b ≡ false)
+none-less [] b n = (tt, n .0)
+none-less (c ∷ bs) b n = let r = none-less bs b (n .1) in ((n .0, r .0), r .1)

@@ -5,11 +5,11 @@ use mathlib.Core.List.{List}
 use Prim.Native.Nat.{ℕ, _≤_}
 use native.Mathlib.Omega.{arith}
 use lib.ListN.{length}
-use lib.Dec.{ltb, leb}
+use lib.Dec.{eqb, ltb, leb}
 use borrow.Author.Tests.{leb-false, lt-leb}
 use Rattle.rules.specs.Bools.{clash, by, and-false}
 use Rattle.rules.specs.Lists.{isZero}
-use Rattle.rules.specs.Types.{Store, Tx, Schedule, Events, Cut, Uncut, After, Refusal, Fate, Undone}
+use Rattle.rules.specs.Types.{Store, Tx, Schedule, Events, Answer, Cut, Uncut, After, Refusal, Fate, Undone}
 use Rattle.rules.specs.Transaction.{finals}
 use Rattle.rules.specs.Numbers.{numberOf, isDone}
 use Rattle.rules.specs.Puts.{Put}
@@ -129,3 +129,34 @@ module _ (S : Store) (x : Tx) (logged : Bool) (plan : Schedule) where
   events-kept cut =
       every-commit S x logged plan (λ a. Kept (a .events) (isDone (a .refusal))) cut
       (zero-kept false refl) (zero-kept false refl) (zero-kept false refl) (λ ok. answered cut)
+
+  -- 000's two promises by their names
+  pub safe-release : (cut : Cut) → safeRelease (commit S x logged plan cut .events) ≡ true
+  safe-release cut = events-kept cut .released
+
+  pub completes : (cut : Cut) → let a = commit S x logged plan cut in isDone (a .refusal) ≡ true → completed (a .events) ≡ true
+  completes cut = events-kept cut .success
+
+  -- "zero on 1, 2, 3 and 18", and no other run of the steps answers these numbers
+  abbrev pub silent : ℕ → Bool
+  silent n = eqb n 1 || (eqb n 2 || (eqb n 3 || eqb n 18))
+
+  never-silent : (n : ℕ) (ps : List Put) (d : End) → Outcome S x logged plan n ps d → silent (numberOf (d .refusal)) ≡ false
+  never-silent _ _ _ (done p) = refl
+  never-silent _ _ _ (stays l t k) = stay-not silent refl refl k _
+  never-silent _ _ _ (aborts l t k) = abort-not silent refl refl refl refl refl k
+  never-silent _ _ _ (uninserted p k) = refl
+  never-silent _ _ _ (uncalled p l k) = called-not S x logged plan silent refl refl refl
+  never-silent _ _ _ (spoils p k) = spoil-not silent refl refl refl refl k _
+  never-silent _ _ _ (unstamped p k) = refl
+
+  abbrev Silent : Answer → Type 0
+  Silent a = silent (numberOf (a .refusal)) ≡ true → a .events ≡ noEvents
+
+  run-silent : (cut : Cut) → Silent (answer S x logged (runOf S x logged plan) cut)
+  unfolding uncut cutOff
+  run-silent Uncut = λ h. clash h (never-silent _ _ _ (outcome S x logged plan))
+  run-silent (After n) = by (ltb n (length (runOf S x logged plan .puts))) (λ e. rw e (λ h. refl)) (λ e. rw e (λ h. clash h (never-silent _ _ _ (outcome S x logged plan))))
+
+  pub events-zero : (cut : Cut) → let a = commit S x logged plan cut in silent (numberOf (a .refusal)) ≡ true → a .events ≡ noEvents
+  events-zero cut = every-commit S x logged plan Silent cut (λ h. refl) (λ h. refl) (λ h. refl) (λ ok. run-silent cut)

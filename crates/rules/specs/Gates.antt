@@ -85,6 +85,18 @@ module _ (S : Store) (x : Tx) (logged : Bool) (plan : Schedule) where
   abbrev pub part : ℕ → List Put → List Put
   part n ps = take (count S x logged plan n) ps
 
+  -- gates 20 to 26: from step 15 on the stores to undo are made
+  abbrev pub lateGates : List Gate
+  lateGates =
+      at (hit 15) 14 (guardsTaken S x logged plan ++ (part 15 (insertions S x) ++ (rollingBack S x logged plan .puts ++ leaving))) (ending (InsertFailed (fate (rollingBack S x logged plan .failed) false)) x (rollingBack S x logged plan .failed))
+      ∷ at (logged && (hit 16 || (worse S x logged plan || panics S x logged plan))) 15 (afterInsert S x logged plan ++ (cond (worse S x logged plan) (putPoison ∷ []) [] ++ (undoing S x logged plan .puts ++ (abortingLate S x logged plan .puts ++ leaving)))) callEnd
+      ∷ at (hit 17) 16 (afterInsert S x logged plan ++ (part 17 (removals S x) ++ putPoison ∷ [] ++ leaving)) (spoilEnd RemoveFailed x false)
+      ∷ at (hit 18) 17 (afterRemove S x logged plan ++ (part 18 (publication x) ++ putDoom (x .txid .0) ∷ finish S x logged plan ++ leaving)) (spoilEnd PublishFailed (noAccesses x) (not (hit 21)))
+      ∷ at (hit 19) 18 (afterPublish S x logged plan ++ (part 19 (recycling S x) ++ putDoom (x .txid .0) ∷ finish S x logged plan ++ leaving)) (spoilEnd RecycleFailed (noWrites x) (not (hit 21)))
+      ∷ at (hit 21) 20 (afterRecycle S x logged plan ++ ([] ++ putDoom (x .txid .0) ∷ [] ++ leaving)) (spoilEnd FinishFailed (emptied x) false)
+      ∷ at (hit 22) 21 (afterFinish S x logged plan ++ (part 22 (stamping S x) ++ putPoison ∷ leaving)) (ending (StampFailed Standing) (emptied x) true)
+      ∷ []
+
   -- gates 0 to 26, in upstream's order
   unfoldable pub gates : List Gate
   gates =
@@ -108,14 +120,7 @@ module _ (S : Store) (x : Tx) (logged : Bool) (plan : Schedule) where
       ∷ at (serializationConflict (S .xmin) (S .xmax) x) 12 (guardsTaken S x logged plan ++ (leaving ++ dying)) (abortEnd Conflict Conflict false false)
       ∷ at (hit 14) 13 (guardsTaken S x logged plan ++ leaving) (stayEnd StepFailed)
       ∷ at (writeBaseConflict (S .heads) x) 13 (guardsTaken S x logged plan ++ (leaving ++ dying)) (abortEnd Conflict Conflict false false)
-      ∷ at (hit 15) 14 (guardsTaken S x logged plan ++ (part 15 (insertions S x) ++ (rollingBack S x logged plan .puts ++ leaving))) (ending (InsertFailed (fate (rollingBack S x logged plan .failed) false)) x (rollingBack S x logged plan .failed))
-      ∷ at (logged && (hit 16 || (worse S x logged plan || panics S x logged plan))) 15 (afterInsert S x logged plan ++ (cond (worse S x logged plan) (putPoison ∷ []) [] ++ (undoing S x logged plan .puts ++ (abortingLate S x logged plan .puts ++ leaving)))) callEnd
-      ∷ at (hit 17) 16 (afterInsert S x logged plan ++ (part 17 (removals S x) ++ putPoison ∷ [] ++ leaving)) (spoilEnd RemoveFailed x false)
-      ∷ at (hit 18) 17 (afterRemove S x logged plan ++ (part 18 (publication x) ++ putDoom (x .txid .0) ∷ finish S x logged plan ++ leaving)) (spoilEnd PublishFailed (noAccesses x) (not (hit 21)))
-      ∷ at (hit 19) 18 (afterPublish S x logged plan ++ (part 19 (recycling S x) ++ putDoom (x .txid .0) ∷ finish S x logged plan ++ leaving)) (spoilEnd RecycleFailed (noWrites x) (not (hit 21)))
-      ∷ at (hit 21) 20 (afterRecycle S x logged plan ++ ([] ++ putDoom (x .txid .0) ∷ [] ++ leaving)) (spoilEnd FinishFailed (emptied x) false)
-      ∷ at (hit 22) 21 (afterFinish S x logged plan ++ (part 22 (stamping S x) ++ putPoison ∷ leaving)) (ending (StampFailed Standing) (emptied x) true)
-      ∷ []
+      ∷ lateGates
 
   -- the run that passes them all
   abbrev pub clean : Run

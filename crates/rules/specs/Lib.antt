@@ -38,5 +38,6 @@ pub mod Outcome
 pub mod Rows
 pub mod Released
 pub mod Aftermath
+pub mod Cutting
 pub mod EventLaws
 pub mod Gates

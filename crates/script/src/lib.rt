@@ -3,6 +3,7 @@
 pub mod field;
 mod form;
 pub mod print;
+pub mod refusal;
 
 ghost use mathlib.Core.Path.{_≡_};
 ghost use Rattle.rules.specs.Script.{split, lineOf};

@@ -1,0 +1,74 @@
+-- `put_text` meets its contract: what is put, before what is left to put, is the whole.
+use mathlib.Core.Path.{_≡_, refl}
+use mathlib.Core.List.{_++_}
+use Prim.Native.Nat.{_+_, _-_, _≤_}
+use native.Mathlib.Omega.{arith}
+use lib.ListN.{length, take, drop, length-set}
+use borrow.Author.Needs.{needs}
+use Rattle.desk.specs.Feed.{answerRoom}
+use Rattle.desk.specs.Put.{put-more, put-all}
+use Rattle.desk.proofs.Long.{text-long}
+use Rattle.desk.proofs.answer.put_text.Statement.{statement}
+use Rattle.desk.proofs.answer.put_text.Tie as tie
+
+abbrev Inv-loop : tie.InvT-loop
+Inv-loop out₀ n text at₀ i₀ out at i =
+    (i ≤ answerRoom) × (at + text .start ≡ n + i) × (length out ≡ length out₀) × (take at out ++ drop i (text .bytes) ≡ take n out₀ ++ drop (text .start) (text .bytes))
+
+abbrev μ-loop : tie.MeasureT-loop
+μ-loop out₀ n text at₀ i₀ out at i = answerRoom - i
+
+loop-holds : tie.Need-loop-holds Inv-loop μ-loop
+loop-holds c = (omega arith, omega arith, refl, refl)
+
+element-copy-out-out : tie.Need-element-copy-out-out Inv-loop μ-loop
+element-copy-out-out c = search needs
+
+slice-write-out : tie.Need-slice-write-out Inv-loop μ-loop
+slice-write-out c = search needs
+
+add-at : tie.Need-add-at Inv-loop μ-loop
+add-at c = search needs
+
+add-i : tie.Need-add-i Inv-loop μ-loop
+add-i c = search needs
+
+loop-less : tie.Need-loop-less Inv-loop μ-loop
+loop-less c = search needs
+
+loop-again : tie.Need-loop-again Inv-loop μ-loop
+loop-again c =
+    let l = c .before .before in
+    let t = l .before .args .t3 in
+    let long = text-long t (l .before .good .1 .1 .0) in
+    (omega arith, omega arith, simp length-set (l .loop .inv .2), put-more (l .loop .out) (t .bytes) _ (l .loop .at) (l .loop .i) (l .loop .inv .3) (omega arith) (omega arith))
+
+same-length : tie.Need-same-length Inv-loop μ-loop
+same-length c = search needs
+
+returns : tie.Need-returns Inv-loop μ-loop
+returns c =
+    let l = c .before in
+    let t = l .before .args .t3 in
+    let long = text-long t (l .before .good .1 .1 .0) in
+    record {
+      long = l .loop .inv .2;
+      few = omega arith;
+      are = put-all (l .loop .out) (t .bytes) _ (l .loop .at) (l .loop .i) (l .loop .inv .3) (omega arith);
+    }
+
+pub put-text-spec : {M : Type 1} → statement M
+put-text-spec =
+    tie.close
+    (tie.spec
+    Inv-loop
+    μ-loop
+    loop-holds
+    element-copy-out-out
+    slice-write-out
+    add-at
+    add-i
+    loop-less
+    loop-again
+    same-length
+    returns)

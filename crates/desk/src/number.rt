@@ -1,0 +1,41 @@
+// The paper's number of a refusal.
+
+ghost use mathlib.Core.Path.{_≡_};
+ghost use Rattle.rules.specs.Numbers.{numberOf};
+use types::Refusal;
+
+pub fn number_of(why: Refusal) -> u64
+    ensures { λ r. ⌜ r ≡ numberOf why ⌝ }
+{
+    match why {
+        Refusal::Done => 0,
+        Refusal::NotResting(_) => 1,
+        Refusal::Unfit(_) => 2,
+        Refusal::NotActive(_) => 3,
+        Refusal::StepFailed(_) => 4,
+        Refusal::PrepareFailed(_) => 5,
+        Refusal::PreparePanicked(_) => 6,
+        Refusal::Conflict(_) => 7,
+        Refusal::BoundDurably(_) => 8,
+        Refusal::FoundPoisoned(_) => 9,
+        Refusal::InsertFailed(_) => 10,
+        Refusal::CallbackFailed(_) => 11,
+        Refusal::CallbackPanicked(_) => 12,
+        Refusal::RemoveFailed(_) => 13,
+        Refusal::PublishFailed(_) => 14,
+        Refusal::RecycleFailed(_) => 15,
+        Refusal::FinishFailed(_) => 16,
+        Refusal::StampFailed(_) => 17,
+        Refusal::CutOff(_) => 18,
+        Refusal::CleanupFailed(_) => 19,
+        Refusal::NotRepairable(_) => 20,
+        Refusal::ActiveFull(_) => 21,
+        Refusal::ClockAtEnd(_) => 22,
+        Refusal::RowTooHigh(_) => 23,
+        Refusal::ReadsFull(_) => 24,
+        Refusal::WritesFull(_) => 25,
+        Refusal::SlotsFull(_) => 26,
+        Refusal::LockedByAnother(_) => 27,
+        Refusal::NoHead(_) => 28,
+    }
+}

@@ -1,0 +1,50 @@
+-- `name_unfit` is safe and ends.
+use Prim.Native.Nat.{_-_}
+use borrow.Author.Needs.{needs}
+use Rattle.faults.proofs.tries.name_unfit.Statement.{statement}
+use Rattle.faults.proofs.tries.name_unfit.Tie as tie
+
+abbrev Inv-loop : tie.InvT-loop
+Inv-loop b logged step letter tried k₀ k = Unit {0}
+
+abbrev μ-loop : tie.MeasureT-loop
+μ-loop b logged step letter tried k₀ k = tried - k
+
+ks-tried-requires : tie.Need-ks-tried-requires Inv-loop μ-loop
+ks-tried-requires c κs = search needs
+
+loop-holds : tie.Need-loop-holds Inv-loop μ-loop
+loop-holds c = search needs
+
+is-unfit-requires : tie.Need-is-unfit-requires Inv-loop μ-loop
+is-unfit-requires c κs = search needs
+
+named-requires : tie.Need-named-requires Inv-loop μ-loop
+named-requires c κs = search needs
+
+add-k : tie.Need-add-k Inv-loop μ-loop
+add-k c = search needs
+
+loop-less : tie.Need-loop-less Inv-loop μ-loop
+loop-less c = search needs
+
+loop-again : tie.Need-loop-again Inv-loop μ-loop
+loop-again c = search needs
+
+returns : tie.Need-returns Inv-loop μ-loop
+returns c = search needs
+
+pub name-unfit-spec : {M : Type 1} → statement M
+name-unfit-spec =
+    tie.close
+    (tie.spec
+    Inv-loop
+    μ-loop
+    ks-tried-requires
+    loop-holds
+    is-unfit-requires
+    named-requires
+    add-k
+    loop-less
+    loop-again
+    returns)

@@ -1,0 +1,30 @@
+// A fault at every step with every letter, alone and joined by one at 21, 23 and 24, and every cut of each: what commit answers, and what
+// recovery shows after it. docs/DECISIONS.md says how the file stdout was compared.
+
+mod bench;
+mod cuts;
+mod fate;
+mod print;
+mod row;
+mod sight;
+mod trial;
+mod tries;
+
+use bench::Bench;
+
+// All steps, unlogged or logged.
+fn try_mode(b: Bench, logged: bool) {
+    row::row(b, logged, trial::none());
+    let mut step: u32 = 1;
+    while step <= 24 {
+        tries::try_step(b, logged, step);
+        step += 1;
+    }
+}
+
+fn main() {
+    let b = bench::prepared();
+    print::legend(b);
+    try_mode(b, false);
+    try_mode(b, true);
+}

@@ -1,0 +1,105 @@
+// The calls with the store lent and changed in place: each takes the store out, calls the value-form core and stores its result back.
+// Read and lookup change nothing, so they take it lent by `&`. Proved by hand: proofs/Walk.antt and proofs/Look.antt say what is shared.
+
+ghost use mathlib.Core.Path.{_≡_};
+ghost use Rattle.rules.specs.Calls.{begin, read, write, lookup, rowLock, abort};
+ghost use Rattle.rules.specs.Answer.{commit};
+ghost use Rattle.rules.specs.Recovery.{recover};
+ghost use Rattle.inplace.specs.Told.{told, wrote, committed};
+
+mod parts;
+
+use types::Cut;
+use types::Events;
+use types::Found;
+use types::Record;
+use types::Refusal;
+use types::RowId;
+use types::Schedule;
+use types::Seen;
+use types::SlotPtr;
+use types::Store;
+use types::Tx;
+use types::Value;
+
+// What begin, row lock and abort answer beside the store.
+pub struct Told {
+    pub refusal: Refusal,
+    pub tx: Tx,
+}
+
+// What write answers beside it.
+pub struct Wrote {
+    pub refusal: Refusal,
+    pub slot: SlotPtr,
+    pub tx: Tx,
+}
+
+// What commit answers beside it.
+pub struct Committed {
+    pub refusal: Refusal,
+    pub record: Record,
+    pub tx: Tx,
+    pub events: Events,
+    pub stores: usize,
+}
+
+pub fn begin_in(s: &mut Store) -> Told
+    ensures { λ r. ⌜ (now (s .exit) ≡ begin (now (s .entry)) .store) × (r ≡ told (begin (now (s .entry)))) ⌝ }
+{
+    let a = calls::begin::begin(*s);
+    *s = parts::reply_store(a);
+    parts::reply_told(a)
+}
+
+pub fn read_in(s: &Store, x: Tx, r: RowId) -> Seen
+    ensures { λ q. ⌜ q ≡ read (now (s .entry)) x (r .0) ⌝ }
+{
+    calls::read::read(*s, x, r)
+}
+
+pub fn write_in(s: &mut Store, x: Tx, r: RowId, v: Value) -> Wrote
+    ensures { λ q. ⌜ (now (s .exit) ≡ write (now (s .entry)) x (r .0) v .store) × (q ≡ wrote (write (now (s .entry)) x (r .0) v)) ⌝ }
+{
+    let a = calls::write::write(*s, x, r, v);
+    *s = parts::written_store(a);
+    parts::written_told(a)
+}
+
+pub fn lookup_in(s: &Store, x: Tx, k: u32) -> Found
+    ensures { λ q. ⌜ q ≡ lookup (now (s .entry)) x k ⌝ }
+{
+    calls::lookup::lookup(*s, x, k)
+}
+
+pub fn row_lock_in(s: &mut Store, x: Tx, r: RowId) -> Told
+    ensures { λ q. ⌜ (now (s .exit) ≡ rowLock (now (s .entry)) x (r .0) .store) × (q ≡ told (rowLock (now (s .entry)) x (r .0))) ⌝ }
+{
+    let a = calls::lock::row_lock(*s, x, r);
+    *s = parts::reply_store(a);
+    parts::reply_told(a)
+}
+
+pub fn abort_in(s: &mut Store, x: Tx) -> Told
+    ensures { λ r. ⌜ (now (s .exit) ≡ abort (now (s .entry)) x .store) × (r ≡ told (abort (now (s .entry)) x)) ⌝ }
+{
+    let a = calls::abort::abort(*s, x);
+    *s = parts::reply_store(a);
+    parts::reply_told(a)
+}
+
+pub fn commit_in(s: &mut Store, x: Tx, logged: bool, plan: Schedule, cut: Cut) -> Committed
+    ensures { λ r. ⌜ (now (s .exit) ≡ commit (now (s .entry)) x logged plan cut .store) × (r ≡ committed (commit (now (s .entry)) x logged plan cut)) ⌝ }
+{
+    let a = commit::commit(*s, x, logged, plan, cut);
+    *s = parts::answer_store(a);
+    parts::answer_told(a)
+}
+
+pub fn recover_in(s: &mut Store) -> Refusal
+    ensures { λ r. ⌜ (now (s .exit) ≡ recover (now (s .entry)) .store) × (r ≡ recover (now (s .entry)) .refusal) ⌝ }
+{
+    let a = mend::recover(*s);
+    *s = parts::mended_store(a);
+    parts::mended_told(a)
+}

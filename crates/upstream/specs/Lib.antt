@@ -1,0 +1,12 @@
+-- source 000's primitives, as it specifies them
+pub mod Primitives
+-- its commit, as the calls that a run here makes
+pub mod Body
+-- whatever a call asks holds where it is reached, and the calls leave the events that commit answers
+pub mod Told
+-- source 002's clauses: postings, publication, what a failure leaves, guards, its witnesses
+pub mod Postings
+pub mod Publication
+pub mod Segment
+pub mod Held
+pub mod Witness
