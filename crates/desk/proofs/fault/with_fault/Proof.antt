@@ -10,8 +10,8 @@ use Rattle.types.specs.Limits.{faultLimit}
 use Rattle.types.specs.Zero.{noFault}
 use Rattle.rules.specs.Lists.{pad}
 use Rattle.rules.specs.Replay.{withFault}
-use Rattle.look.specs.Pad.{pad-more, more-room}
-use Rattle.steps.proofs.Long.{faults-long}
+use Rattle.view.specs.Pad.{pad-more, more-room}
+use Rattle.view.proofs.Lengths.{faults-long}
 use Rattle.desk.proofs.fault.with_fault.Statement.{statement}
 use Rattle.desk.proofs.fault.with_fault.Tie as tie
 
