@@ -7,6 +7,7 @@ use lib.Dec.{eqb}
 use lib.ListN.{length, take}
 use Rattle.rules.specs.Replay.{Desk, start, turn}
 use Rattle.rules.specs.Script.{Bytes, split, lineOf, write}
+use Rattle.script.specs.Print.{room}
 use Rattle.desk.specs.declared.held.Held.{Held}
 use Rattle.desk.specs.declared.feed.Replay.{Replay}
 use Rattle.desk.specs.declared.feed.Fed.{Fed}
@@ -28,7 +29,7 @@ heldRoom = 27
 
 -- an answer line has at most so many bytes
 abbrev pub answerRoom : ℕ
-answerRoom = 63
+answerRoom = room
 
 -- line numbers have 64 bits
 abbrev pub nextLine : ℕ → ℕ

@@ -17,7 +17,7 @@ use Rattle.desk.specs.declared.turn.Turned.{Turned}
 use Rattle.desk.specs.declared.feed.Fed.{Fed}
 use Rattle.desk.specs.Turn.{placeIn, atFirst, single, turned, joined, turn-alone}
 use Rattle.desk.specs.Put.{Puts}
-use Rattle.desk.specs.Feed.{Reading, Part, heldRoom, nextLine, lineEnd, withByte, fedByte, fed, ended, answerRoom, Counted, Feeds}
+use Rattle.desk.specs.Feed.{Reading, heldRoom, nextLine, lineEnd, withByte, fedByte, fed, ended, answerRoom, Counted, Feeds}
 
 -- two parts are one
 pub fed-append : (a b : Bytes) (s : Reading)

@@ -1,9 +1,8 @@
 // Answer lines, one behind the other.
 
-ghost use mathlib.Core.Path.{_≡_};
-ghost use mathlib.Core.List.{[], _∷_, _++_};
+ghost use mathlib.Core.List.{[], _∷_};
 ghost use Prim.Native.Nat.{_+_, _≤_};
-ghost use lib.ListN.{length, take, drop};
+ghost use lib.ListN.{length, drop};
 ghost use Rattle.rules.specs.Replay.{says};
 ghost use Rattle.rules.specs.Script.{write};
 ghost use Rattle.script.specs.Print.{thirdOf};

@@ -1,7 +1,7 @@
 // One line: what it leaves of the store, of its place's transaction and of the pending faults, and what it answers.
 
 ghost use mathlib.Core.Path.{_≡_};
-ghost use Rattle.rules.specs.Replay.{lineB, lineR, lineW, lineL, lineK, lineA, lineC, lineF, lineV, valueThird, turn};
+ghost use Rattle.rules.specs.Replay.{lineB, lineR, lineW, lineL, lineK, lineA, lineC, lineF, lineV, lineBad, valueThird, turn};
 ghost use Rattle.script.specs.Meaning.{meaning};
 ghost use Rattle.script.specs.Print.{thirdOf};
 ghost use Rattle.desk.specs.Turn.{placeIn, atFirst, single, turned};
@@ -59,6 +59,7 @@ fn begin_line(s: Store, x: Tx, plan: Schedule) -> Turned
     let a = begin(s);
     let why = a.refusal;
     let number = number_of(why);
+    let tx = a.tx;
     if number != 0 {
         return Turned {
             store: s,
@@ -69,7 +70,6 @@ fn begin_line(s: Store, x: Tx, plan: Schedule) -> Turned
         };
     }
     let store = a.store;
-    let tx = a.tx;
     Turned {
         store,
         tx,
@@ -231,6 +231,19 @@ fn recover_line(s: Store, x: Tx, plan: Schedule) -> Turned
     }
 }
 
+// "A line that isn't one of these forms is answered 2"
+fn bad_line(s: Store, x: Tx, plan: Schedule) -> Turned
+    ensures { λ r. ⌜ turned r ≡ turn lineBad (single s x plan) ⌝ }
+{
+    Turned {
+        store: s,
+        tx: x,
+        plan,
+        number: 2,
+        third: Third::Num(0),
+    }
+}
+
 // A line on the store and the transaction of its place.
 pub fn turn(s: Store, x: Tx, plan: Schedule, line: Line) -> Turned
     ensures { λ r. ⌜ turned r ≡ turn (atFirst (meaning line)) (single s x plan) ⌝ }
@@ -245,12 +258,6 @@ pub fn turn(s: Store, x: Tx, plan: Schedule, line: Line) -> Turned
         Line::Commit(_, logged, cut) => commit_line(s, x, plan, logged, cut),
         Line::Fault(f) => fault_line(s, x, plan, f),
         Line::Recover => recover_line(s, x, plan),
-        Line::Bad => Turned {
-            store: s,
-            tx: x,
-            plan,
-            number: 2,
-            third: Third::Num(0),
-        },
+        Line::Bad => bad_line(s, x, plan),
     }
 }

@@ -1,5 +1,4 @@
 -- `turn` meets its contract: a case for each kind of line.
-use Rattle.desk.specs.Lines.{refused}
 use borrow.Author.Needs.{needs}
 use Rattle.desk.proofs.turn.turn.Statement.{statement}
 use Rattle.desk.proofs.turn.turn.Tie as tie
@@ -61,6 +60,9 @@ recover-line-requires c κs = search needs
 enum-told-4 : tie.Need-enum-told-4
 enum-told-4 c = search needs
 
+bad-line-requires : tie.Need-bad-line-requires
+bad-line-requires c κs = search needs
+
 returns : tie.Need-returns
 returns c = rw (c .before .enum-told .given .1) (c .begin-line .ensures)
 
@@ -89,7 +91,7 @@ returns-9 : tie.Need-returns-9
 returns-9 c = rw (c .before .enum-told3 .given .1) (c .recover-line .ensures)
 
 returns-10 : tie.Need-returns-10
-returns-10 c = let a = c .before .before .args in rw (c .enum-told4 .given .1) (refused (a .s) (a .x) (a .plan))
+returns-10 c = rw (c .before .enum-told4 .given .1) (c .bad-line .ensures)
 
 pub turn-spec : {M : Type 1} → statement M
 turn-spec =
@@ -114,6 +116,7 @@ turn-spec =
     enum-told-3
     recover-line-requires
     enum-told-4
+    bad-line-requires
     returns
     returns-2
     returns-3
