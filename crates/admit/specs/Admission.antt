@@ -1,6 +1,6 @@
 -- The refusals that every call but begin and recovery tries first.
 use mathlib.Core.Path.{_≡_, refl}
-use mathlib.Core.Bool.{Bool, true, false, not, cond, _&&_, and-true}
+use mathlib.Core.Bool.{Bool, true, false, not, _&&_, and-true}
 use mathlib.Core.List.{[], _∷_}
 use Rattle.rules.specs.Lists.{memb}
 use Rattle.rules.specs.Bools.{clash}

@@ -1,17 +1,17 @@
 -- The fit schedule: the masks of the constant table say what the definitions' table says; steps apart.
-use mathlib.Core.Path.{_≡_, refl, sym, ap, _∙_}
-use mathlib.Core.Bool.{Bool, true, false, not, cond, _&&_, _||_, and-false as and-no, and-true as and-yes}
+use mathlib.Core.Path.{_≡_, refl, ap, _∙_}
+use mathlib.Core.Bool.{Bool, true, false, not, _&&_, _||_, and-false as and-no, and-true as and-yes}
 use mathlib.Core.List.{List, [], _∷_}
 use Prim.Native.Nat.{ℕ, _/_, _%_, _<_, _≤_}
 use native.Mathlib.Omega.{arith}
 use borrow.Author.Tests.{eq-eqb, ne-eqb}
-use lib.ListN.{getD, length}
+use lib.ListN.{getD}
 use lib.Dec.{eqb}
 use Rattle.rules.specs.Types.{Fault}
 use Rattle.rules.specs.Lists.{all, memb}
 use Rattle.rules.specs.Bools.{by}
 use Rattle.rules.specs.Faults.{F, B, P, X, Q, may, table, masks, bitOf, allowed, stepsApart}
-use Rattle.rules.specs.FaultTable.{bit, letterEnd, mask-says, mask-counts}
+use Rattle.rules.specs.FaultTable.{letterEnd, mask-says, mask-counts}
 use Rattle.admit.specs.Apart.{apart}
 
 -- a letter's bit is a number to divide by

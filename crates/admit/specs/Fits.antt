@@ -1,11 +1,11 @@
 -- The fit transaction as the row of tests that the code makes, and the fit schedule.
-use mathlib.Core.Path.{_≡_, refl, sym, ap, _∙_}
+use mathlib.Core.Path.{_≡_, sym, _∙_}
 use mathlib.Core.Bool.{Bool, true, false, _&&_}
 use mathlib.Core.List.{List, [], _∷_, _++_}
 use Prim.Native.Nat.{ℕ, _≤_}
 use borrow.Author.Tests.{leb-true}
 use lib.ListN.{length, getD, take, drop}
-use lib.Dec.{eqb, leb}
+use lib.Dec.{leb}
 use Rattle.types.specs.Limits.{rows, places, writeLimit, readLimit, indexReadLimit, savepointLimit, activeLimit}
 use Rattle.types.specs.Zero.{noWrite, noRead, noIndexRead}
 use Rattle.rules.specs.Types.{Store, Tx, Schedule, Fault}

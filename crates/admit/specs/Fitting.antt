@@ -1,6 +1,6 @@
 -- The tests on a transaction's lists, over arrays, one turn at a time.
 use mathlib.Core.Path.{_≡_, refl, sym, ap, _∙_}
-use mathlib.Core.Bool.{Bool, true, false, not, cond, _&&_, _||_, and-false as and-no, and-true as and-yes, or-true as or-yes}
+use mathlib.Core.Bool.{Bool, true, false, not, _&&_, _||_, and-false as and-no, or-true as or-yes}
 use mathlib.Core.List.{List, [], _∷_}
 use Prim.Native.Nat.{ℕ, _+_, _<_, _≤_}
 use native.Mathlib.Omega.{arith}
@@ -10,7 +10,7 @@ use lib.Dec.{eqb, ltb, leb}
 use Rattle.types.specs.Limits.{rows, slots, places, stripes, indexReadLimit}
 use Rattle.types.specs.Zero.{noIndexRead}
 use Rattle.rules.specs.Types.{Write, ReadRecord, IndexRead}
-use Rattle.rules.specs.Lists.{all, every, nonFalling}
+use Rattle.rules.specs.Lists.{all}
 use Rattle.rules.specs.Store.{used}
 use Rattle.rules.specs.Chains.{on}
 use Rattle.rules.specs.Fit.{readFit, writeFit, writesApart, stripesApart}

@@ -1,16 +1,13 @@
 -- The postings over lent arrays: their form in one pass, and the test that the heads tell them.
-use mathlib.Core.Path.{_≡_, refl, ap}
-use mathlib.Core.Bool.{Bool, true, false, not, cond, _&&_, _||_, and-true, and-false}
+use mathlib.Core.Path.{_≡_, ap}
+use mathlib.Core.Bool.{Bool, true, false, _&&_, _||_, and-true}
 use mathlib.Core.List.{List, [], _∷_}
-use Prim.Native.Nat.{ℕ, zero, suc, _+_, _<_, _≤_}
-use native.Mathlib.Omega.{arith}
-use native.Mathlib.Numerals.{add-one}
-use borrow.Author.Tests.{eq-eqb, ne-eqb, lt-ltb, le-ltb, le-leb, lt-leb, leb-true}
-use lib.ListN.{length, getD, take, drop, length-take, drop-of-length-le}
-use lib.Seq.{drop-cons, getD-take, length-take-le}
+use Prim.Native.Nat.{ℕ, suc, _+_, _<_, _≤_}
+use borrow.Author.Tests.{le-leb, lt-leb, leb-true}
+use lib.ListN.{getD, take, drop}
 use lib.Dec.{eqb, ltb, leb}
 use Rattle.types.specs.Limits.{rows, postingLimit, keyEnd}
-use Rattle.rules.specs.Lists.{all, every, allZero, rising, those}
+use Rattle.rules.specs.Lists.{all, every, allZero, rising}
 use Rattle.rules.specs.Store.{posting, keyOf, rowOf}
 use Rattle.view.specs.Lent.{array, array-at, atRows, atPlaces, flagsAtPlaces}
 use Rattle.admit.specs.Every.{every-each}

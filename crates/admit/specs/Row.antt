@@ -1,6 +1,6 @@
 -- The admission tests of a store whose fields are lent, as rows of the tests that the code makes.
-use mathlib.Core.Path.{_≡_, refl, sym, ap, _∙_}
-use mathlib.Core.Bool.{Bool, true, false, not, _&&_, _||_}
+use mathlib.Core.Path.{_≡_, sym, ap, _∙_}
+use mathlib.Core.Bool.{Bool, true, false, _&&_, _||_}
 use mathlib.Core.List.{List, [], _∷_, _++_}
 use Prim.Native.Nat.{ℕ}
 use borrow.Author.Tests.{eq-eqb, ne-eqb}
@@ -10,12 +10,12 @@ use lib.Dec.{eqb, ltb, leb}
 use Rattle.types.specs.Limits.{rows, places, postingLimit, stripes, partitions, activeLimit}
 use Rattle.rules.specs.Types.{Store}
 use Rattle.rules.specs.Lists.{all, every, eachOr, those, same, allZero, isZero, nonzero}
-use Rattle.rules.specs.Store.{used, usedSlots, slotsInForm, postingsOf, postingsInForm, activeInForm}
+use Rattle.rules.specs.Store.{usedSlots, slotsInForm, postingsOf, postingsInForm, activeInForm}
 use Rattle.rules.specs.Chains.{walk}
 use Rattle.rules.specs.Admitted.{offOk, restsAt, repairable, resting, headPostings}
 use Rattle.laws.specs.Lists.{Each}
 use Rattle.view.specs.Lent.{array, array-length, array-same, atRows, atPlaces, flagsAtPlaces}
-use Rattle.admit.specs.Every.{Holds, every-fails, each-every, every-last}
+use Rattle.admit.specs.Every.{Holds, every-fails, every-last}
 use Rattle.admit.specs.Lending.{lentStore}
 use Rattle.admit.specs.Walked.{walk-long}
 use Rattle.admit.specs.Versions.{fin, chainAt}

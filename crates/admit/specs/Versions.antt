@@ -1,13 +1,12 @@
 -- The rules for a chain's versions, one turn along the chain at a time, over lent arrays.
-use mathlib.Core.Path.{_≡_, refl, sym, _∙_}
-use mathlib.Core.Bool.{Bool, true, false, not, cond, _&&_, _||_, or-true, and-false}
+use mathlib.Core.Path.{_≡_, refl, _∙_}
+use mathlib.Core.Bool.{Bool, true, false, _&&_, _||_, or-true, and-false}
 use mathlib.Core.List.{List, [], _∷_}
 use Prim.Native.Nat.{ℕ, zero, suc, _-_, _<_, _≤_}
 use native.Mathlib.Omega.{arith}
 use native.Mathlib.Numerals.{sub-one}
-use borrow.Author.Tests.{eq-eqb, ne-eqb, lt-ltb, le-ltb, le-leb, lt-leb}
+use borrow.Author.Tests.{eq-eqb, ne-eqb}
 use lib.ListN.{getD}
-use lib.Dec.{eqb}
 use Rattle.types.specs.Limits.{activeLimit, slots, places}
 use Rattle.rules.specs.Chains.{chainFrom}
 use Rattle.rules.specs.Admitted.{finished, tailOk, chainOk}

@@ -1,7 +1,7 @@
 -- Demand 1: no call trusts its caller. Any store, transaction, schedule and cut may arrive; commit's answer is one of the paper's numbers, and
 -- for each of them refusal with fate, record, store and transaction are those of its row of "Numbers seen" (crate `index`: the table in Numbers,
 -- the proof in Seen). The other calls' tables are in crate `keeps`, Refusals; here they are gathered.
-use mathlib.Core.Path.{_≡_, refl}
+use mathlib.Core.Path.{_≡_}
 use mathlib.Core.Bool.{Bool, true, false}
 use mathlib.Core.List.{[]}
 use mathlib.Core.Logic.{_↔_}

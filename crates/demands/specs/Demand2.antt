@@ -7,16 +7,15 @@ use mathlib.Core.Logic.{_↔_, _≢_, _⊎_}
 use Prim.Native.Nat.{ℕ, _<_}
 use native.Mathlib.Omega.{arith}
 use lib.ListN.{length, getD}
-use lib.Dec.{eqb}
 use borrow.Author.Tests.{eqb-true}
 use Rattle.types.specs.Limits.{rows, writeLimit}
 use Rattle.types.specs.Zero.{noWrite, onlyTxid}
 use Rattle.rules.specs.Lists.{memb, isZero, pad}
 use Rattle.rules.specs.Types.{Store, Tx, Txid, RowId, SlotPtr, Write, ReadRecord, IndexRead, Schedule, Record, Answer, Cut, Uncut, Value}
-use Rattle.rules.specs.Store.{valueAt, activeTxids, postingsOf}
+use Rattle.rules.specs.Store.{activeTxids, postingsOf}
 use Rattle.rules.specs.Transaction.{writesOf, readsOf, indexReadsOf, finalWrites, finals, emptied}
 use Rattle.rules.specs.Chains.{walk, on}
-use Rattle.rules.specs.Admitted.{finished, headPostings, resting}
+use Rattle.rules.specs.Admitted.{headPostings, resting}
 use Rattle.rules.specs.Numbers.{numberOf, isDone}
 use Rattle.rules.specs.Puts.{Put, kStripe, kPartition, kInsert, kRemove, kXmax, kHead, kFree, kDrop, kStamp, kPoison, kDoom, putDrop, applyAll}
 use Rattle.rules.specs.Calls.{abort}

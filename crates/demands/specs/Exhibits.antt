@@ -1,5 +1,5 @@
 -- Not vacuous: stores, transactions, schedules and cuts that meet the premises of the demands, with each outcome; and the numbers 20 to 28, which
--- calls beside commit give. (0 to 19 are exhibited by `struck` and `all-answered`, crate `rules`.)
+-- calls beside commit give. (0 to 19 are exhibited by `struck` and `all-answered`, Struck.)
 use mathlib.Core.Path.{_≡_, refl, ap}
 use mathlib.Core.Bool.{true, false}
 use mathlib.Core.List.{List, [], _∷_, _++_}
@@ -22,7 +22,7 @@ use Rattle.rules.specs.Answer.{commit}
 use Rattle.rules.specs.Replay.{Line, lineB, lineR, lineW, lineK, lineC, lineF, start, txAt}
 use Rattle.rules.specs.Computing.{computing}
 use Rattle.rules.specs.Mornings.{morning, written, done}
-use Rattle.rules.specs.Struck.{again, beaten}
+use Rattle.demands.specs.Struck.{again, beaten}
 use Rattle.rules.specs.Rows.{Admitted}
 use Rattle.laws.specs.Sized.{Sized}
 use Rattle.heart.specs.Recovery.{Keyed}

@@ -1,4 +1,6 @@
 pub mod Demand1
 pub mod Demand3
 pub mod Demand2
+-- histories with faults and cuts, and what meets the premises
+pub mod Struck
 pub mod Exhibits

@@ -1,6 +1,6 @@
 -- "A schedule is unfit with two faults at one step, a letter the step lacks, or k nonzero outside Fk", in words.
 use mathlib.Core.Path.{_≡_, refl}
-use mathlib.Core.Bool.{Bool, true, false, not, _&&_, _||_}
+use mathlib.Core.Bool.{Bool, true, not, _&&_, _||_}
 use mathlib.Core.List.{List, [], _∷_}
 use mathlib.Core.Logic.{_↔_, _≢_, _⊎_}
 use Prim.Native.Nat.{ℕ, _<_}
@@ -8,7 +8,7 @@ use lib.ListN.{length, getD}
 use lib.Dec.{eqb}
 use borrow.Author.Tests.{eqb-true, eq-eqb, eqb-false, ne-eqb, not-true}
 use Rattle.types.specs.Zero.{noFault}
-use Rattle.rules.specs.Lists.{all, memb}
+use Rattle.rules.specs.Lists.{memb}
 use Rattle.rules.specs.Types.{Fault, Schedule}
 use Rattle.rules.specs.Faults.{F, Allowed, may, table, allowed, stepsApart, faultsOf, scheduleFit}
 use Rattle.rules.specs.Bools.{and-true, and-both}

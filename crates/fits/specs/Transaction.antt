@@ -1,5 +1,5 @@
 -- "Fit transaction", in words: the test says yes exactly where these sentences hold.
-use mathlib.Core.Path.{_≡_, refl, sym, ap}
+use mathlib.Core.Path.{_≡_, refl}
 use mathlib.Core.Bool.{Bool, true, false, not, _&&_, _||_}
 use mathlib.Core.List.{List, [], _∷_}
 use mathlib.Core.Logic.{_↔_, _≢_, _⊎_}
@@ -9,19 +9,18 @@ use lib.Dec.{eqb, ltb, leb}
 use borrow.Author.Tests.{leb-true, le-leb, ltb-true, lt-ltb, not-true}
 use Rattle.types.specs.Limits.{rows, slots, stripes, activeLimit, writeLimit, readLimit, indexReadLimit, savepointLimit}
 use Rattle.types.specs.Zero.{noWrite, noRead, noIndexRead}
-use Rattle.rules.specs.Lists.{all, every, memb, isZero, allZero}
+use Rattle.rules.specs.Lists.{all, every, memb, isZero}
 use Rattle.rules.specs.Types.{Store, Tx, Txid, RowId, SlotPtr, Write, ReadRecord, IndexRead}
-use Rattle.rules.specs.Store.{used}
 use Rattle.rules.specs.Transaction.{writesOf, readsOf, indexReadsOf, savepointsOf}
 use Rattle.rules.specs.Chains.{walk, on}
-use Rattle.rules.specs.Fit.{countsFit, readFit, writeFit, writesApart, stripesApart, fit}
+use Rattle.rules.specs.Fit.{countsFit, readFit, writesApart, stripesApart, fit}
 use Rattle.rules.specs.Bools.{clash, by, every-cons, cons-every, every-none}
 use Rattle.rules.specs.TestLaws.{either}
 use Rattle.laws.specs.Sized.{Sized}
 use Rattle.laws.specs.Chained.{Chained}
 use Rattle.heart.specs.Meaning.{Mends, Off, marks}
 use Rattle.fits.specs.Lists.{each-place, pairs, each-pair, not-falling}
-use Rattle.fits.specs.Schedule.{same-number, other-number, and-say, itself}
+use Rattle.fits.specs.Schedule.{same-number, other-number, and-say}
 
 at-most : (m n : ℕ) → (leb m n ≡ true) ↔ (m ≤ n)
 at-most m n = (leb-true m n, le-leb m n)

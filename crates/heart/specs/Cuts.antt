@@ -1,15 +1,14 @@
 -- A commit cut after any number of its stores, and then recovered.
-use mathlib.Core.Path.{_≡_, refl, sym, ap, _∙_, subst}
+use mathlib.Core.Path.{_≡_, refl, ap, _∙_}
 use mathlib.Core.Bool.{Bool, true}
-use Prim.Native.Nat.{ℕ, _<_}
+use Prim.Native.Nat.{ℕ}
 use native.Mathlib.Omega.{arith}
 use lib.ListN.{length, getD, take}
 use lib.Seq.{take-all}
 use lib.Dec.{ltb}
 use borrow.Author.Tests.{ltb-true, ltb-false, lt-ltb}
-use Rattle.types.specs.Limits.{rows, keyEnd}
-use Rattle.rules.specs.Types.{Store, Tx, Schedule, Uncut, After, Refusal, Done}
-use Rattle.rules.specs.Store.{valueAt}
+use Rattle.types.specs.Limits.{keyEnd}
+use Rattle.rules.specs.Types.{Store, Tx, Schedule, After, Done}
 use Rattle.rules.specs.Admitted.{repairable}
 use Rattle.rules.specs.Puts.{applyAll}
 use Rattle.rules.specs.Commit.{runOf}
@@ -20,12 +19,8 @@ use Rattle.rules.specs.Only.{only-take}
 use Rattle.rules.specs.Rows.{Admitted, admitted}
 use Rattle.index.specs.All.{all-get}
 use Rattle.laws.specs.Lists.{at-all}
-use Rattle.laws.specs.Sized.{Sized}
-use Rattle.heart.specs.Sizes.{sized-all}
-use Rattle.heart.specs.Live.{Shows}
 use Rattle.heart.specs.Counted.{counted, run-counted, keys-kept}
-use Rattle.heart.specs.Recovery.{Keyed, Recovered, recovery}
-use Rattle.heart.specs.Prefix.{survives, prefix}
+use Rattle.heart.specs.Recovery.{Keyed}
 
 -- a repairable store is recovered
 pub recover-done : (S : Store) → repairable S ≡ true → recover S ≡ record { refusal = Done; store = recovered S }
@@ -44,32 +39,9 @@ module _ (S : Store) (x : Tx) (logged : Bool) (plan : Schedule) where
       (λ e. rw e)
       (λ e. rw (e, take-all n (runOf S x logged plan .puts) (ltb-false n (length (runOf S x logged plan .puts)) e)))
 
-  uncut-refusal : Admitted S x plan → commit S x logged plan Uncut .refusal ≡ runOf S x logged plan .end .refusal
-  unfolding uncut
-  uncut-refusal ok = ap (λ a. a .refusal) (admitted S x logged plan Uncut ok)
-
   -- no key is made on the way
   pub keyed-run : Keyed S → (n : ℕ) → Keyed (applyAll (take n (runOf S x logged plan .puts)) S)
   keyed-run k n =
       let ps = take n (runOf S x logged plan .puts) in
       at-all (λ c. ltb c keyEnd) (applyAll ps S .key) 0 (λ p lt. lt-ltb (getD (applyAll ps S .key) p 0) keyEnd
       (omega (arith, ltb-true (getD (S .key) p 0) keyEnd (all-get (λ c. ltb c keyEnd) (S .key) p 0 k refl), keys-kept ps S (only-take counted n (runOf S x logged plan .puts) (run-counted S x logged plan)) p)))
-
-  -- theorem P of the call
-  pub cut-shows : Sized S → Admitted S x plan → (n : ℕ) → Shows (survives S x (commit S x logged plan Uncut .refusal) (cutStore n)) (cutStore n)
-  cut-shows z ok n =
-      subst (λ (why : Refusal). Shows (survives S x why (cutStore n)) (cutStore n)) (sym (uncut-refusal ok))
-      (subst (λ (D : Store). Shows (survives S x (runOf S x logged plan .end .refusal) D) D) (sym (cut-store ok n)) (prefix S x logged plan z ok n))
-
-  -- P, then R
-  pub cut-recovered : Sized S → Keyed S → Admitted S x plan → (n : ℕ) → let D = recovered (cutStore n) in
-      (recover (cutStore n) ≡ record { refusal = Done; store = D })
-      × Recovered (cutStore n) D
-      × ((r : ℕ) → r < rows → valueAt (D .key) (D .has) (getD (D .heads) r 0) ≡ survives S x (commit S x logged plan Uncut .refusal) (cutStore n) r)
-  cut-recovered z k ok n =
-      let P = cut-shows z ok n in
-      let ps = take n (runOf S x logged plan .puts) in
-      let sized : Sized (cutStore n) = subst Sized (sym (cut-store ok n)) (sized-all ps S z) in
-      let keyed : Keyed (cutStore n) = subst (λ (D : Store). Keyed D) (sym (cut-store ok n)) (keyed-run k n) in
-      let R = recovery (cutStore n) sized keyed (P .mends) in
-      (recover-done (cutStore n) (P .mends), R, λ r lt. R .shows r lt ∙ P .shows r lt)

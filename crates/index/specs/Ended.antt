@@ -14,7 +14,7 @@ use Rattle.rules.specs.Outcome.{Taken}
 use Rattle.rules.specs.Rows.{given-back}
 use Rattle.rules.specs.Gates.{Gate, first, stayEnd, abortEnd, dying}
 use Rattle.index.specs.Table.{Row, row, firstRow}
-use Rattle.index.specs.Numbers.{poisoned, aborted, with, gone}
+use Rattle.index.specs.Numbers.{poisoned, aborted, gone}
 
 -- "Poisoning a poisoned store makes no store."
 poison-once : (T : Store) → applyAll (poison (T .poisoned)) T ≡ apply putPoison T

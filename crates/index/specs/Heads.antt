@@ -91,9 +91,6 @@ module _ (key : List ℕ) (has : List Bool) where
         let a = and-true (ltb r (length heads)) (sameValue (valueAt key has (getD heads r 0)) (Key k)) (sym (head-member k r lt) ∙ m) in
         (ltb-true r (length heads) (a .0), same-value (valueAt key has (getD heads r 0)) (Key k) (a .1))
 
-    pub has-head : (k r : ℕ) → r < length heads → valueAt key has (getD heads r 0) ≡ Key k → memb (posting k r) (headPostings key has 0 heads) ≡ true
-    has-head k r lt e = rw (head-member k r (omega arith), lt-ltb r (length heads) lt, e) (eq-eqb k k refl)
-
     -- one posting a row at most
     pub head-once : (j k r : ℕ) → r < rows → memb (posting j r) (headPostings key has 0 heads) ≡ true → memb (posting k r) (headPostings key has 0 heads) ≡ true → j ≡ k
     head-once j k r lt m n =

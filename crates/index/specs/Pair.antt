@@ -27,10 +27,6 @@ row-small c = omega arith
 pub posting-once : (j k q r : ℕ) → q < rows → r < rows → posting j q ≡ posting k r → (j ≡ k) × (q ≡ r)
 posting-once j k q r h i e = omega arith
 
--- keys of 32 bits are the postings below the first that has a larger key
-pub key-below : (c : ℕ) → c < posting keyEnd 0 → keyOf c < keyEnd
-key-below c h = omega arith
-
 pub below-key : (k r : ℕ) → k < keyEnd → r < rows → posting k r < posting keyEnd 0
 below-key k r h i = omega arith
 

@@ -135,12 +135,6 @@ pub rising-inOrder : (l : List ℕ) → rising 0 (inOrder l) ≡ true
 rising-inOrder [] = refl
 rising-inOrder (x ∷ l) = rising-into 0 x (inOrder l) (omega arith) (rising-inOrder l)
 
--- a new number put in and taken out again leaves the list as it was
-pub into-without : (lo c : ℕ) (l : List ℕ) → rising lo l ≡ true → lo ≤ c → memb c l ≡ false → without c (into c l) ≡ l
-into-without lo c l h le n =
-    rising-ext lo lo (without c (into c l)) l (rising-without lo c (into c l) (rising-into lo c l le h)) h
-    (λ p. mem-without c (into c l) p ∙ rw (mem-into c l p) (by (eqb p c) (λ e. rw e (sym (rw (eqb-true p c e) n))) (λ e. rw e)))
-
 -- .. and makes it one longer, at most; a number taken out makes it no longer
 pub into-length : (c : ℕ) (l : List ℕ) → length (into c l) ≤ suc (length l)
 into-length c [] = omega arith

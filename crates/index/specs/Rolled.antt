@@ -1,13 +1,13 @@
 -- "Numbers seen", rows 10 to 12: insertions undone, and rolled back and aborted.
-use mathlib.Core.Path.{_≡_, refl, sym, ap}
+use mathlib.Core.Path.{_≡_, refl, sym}
 use mathlib.Core.Bool.{Bool, true, false, cond, _||_}
 use mathlib.Core.List.{List, [], _∷_, _++_, map, reverse, append-assoc}
-use Prim.Native.Nat.{ℕ, zero, suc}
+use Prim.Native.Nat.{ℕ}
 use lib.ListN.{length, take}
 use lib.Seq.{take-length}
 use lib.Dec.{eqb}
 use Rattle.types.specs.Zero.{onlyTxid}
-use Rattle.rules.specs.Types.{Store, Tx, Schedule, Cut, Open, Closed, CallbackFailed, CallbackPanicked}
+use Rattle.rules.specs.Types.{Store, Tx, Schedule, Cut, Open, CallbackFailed, CallbackPanicked}
 use Rattle.rules.specs.Bools.{by, clash, or-false}
 use Rattle.rules.specs.Numbers.{numberOf, fateIn, fate}
 use Rattle.rules.specs.Puts.{Put, putInsert, putRemove, putPoison, applyAll, abortPuts}
@@ -134,10 +134,3 @@ module _ (S : Store) (x : Tx) (logged : Bool) (plan : Schedule) (sized : Sized S
   row-11-12 cut ok a f h =
       let u = whole S x logged plan cut ok eleven refl h in
       rw u (only-eleven _ _ _ ok a f (outcome S x logged plan) (rw u at h))
-
-  -- by F and P: aborted and nothing else; closed
-  pub row-11-12-plain : (cut : Cut) → Admitted S x plan → fails S x logged plan 23 ≡ false → fails S x logged plan 24 ≡ false → worse S x logged plan ≡ false
-      → let a = commit S x logged plan cut in
-      eleven (numberOf (a .refusal)) ≡ true
-      → (a .store ≡ applyAll (abortPuts S (x .txid .0)) S) × (a .tx ≡ onlyTxid (x .txid .0)) × (fateIn (a .refusal) ≡ Closed)
-  row-11-12-plain cut ok a f w h = rw w at (row-11-12 cut ok a f h)

@@ -19,7 +19,7 @@ use Rattle.rules.specs.Answer.{recordOf, uncut, cutOff, answer, commit}
 use Rattle.rules.specs.Outcome.{neither, index, both, Passed}
 use Rattle.rules.specs.Rows.{Admitted, row-1, row-2, row-3, admitted}
 use Rattle.rules.specs.Gates.{gates, lateGates, clean, run-gates}
-use Rattle.index.specs.Table.{Row, row, firstRow, Reason, told-by}
+use Rattle.index.specs.Table.{Row, firstRow, Reason, told-by}
 use Rattle.index.specs.Numbers.{some, rows15, stepRows, doneRow, cutRow, commitRows}
 use Rattle.laws.specs.Sized.{Sized}
 use Rattle.index.specs.Rolled.{ready}

@@ -1,5 +1,4 @@
 -- The keys of a store that is passed by value have 32 bits, as its type says.
-use lib.ListN.{getD}
 use denote.Laws.{Is}
 use denote.Struct.Laws as LL
 use borrow.Author.Needs.{elem-fits-field}

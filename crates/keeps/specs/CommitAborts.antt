@@ -22,7 +22,7 @@ use Rattle.rules.specs.Commit.{End, fails, abortOrPoison}
 use Rattle.rules.specs.Answer.{uncut, commit}
 use Rattle.rules.specs.Only.{only, only-both, only-if, kept, is-not}
 use Rattle.rules.specs.Guards.{applyAll-append}
-use Rattle.rules.specs.Outcome.{Taken, neither, index, both, guardsTaken, afterInsert, worse, undoing, abortingLate, Outcome, done, stays, aborts, uninserted, uncalled, spoils, unstamped, outcome}
+use Rattle.rules.specs.Outcome.{Taken, neither, index, both, guardsTaken, afterInsert, worse, undoing, Outcome, done, stays, aborts, uninserted, uncalled, spoils, unstamped, outcome}
 use Rattle.rules.specs.Rows.{Admitted, whole, stay-not, spoil-not}
 use Rattle.index.specs.Kinds.{index-kind, taken-kinds, release-kinds, insertions-kind, rollback-kinds}
 use Rattle.laws.specs.Sized.{Sized}

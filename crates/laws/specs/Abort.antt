@@ -12,13 +12,8 @@ use Rattle.rules.specs.Commit.{poison, rollback, fails, count}
 use Rattle.rules.specs.Bools.{by, and-true, and-both, mem-there}
 use Rattle.rules.specs.Guards.{applyAll-append}
 use Rattle.rules.specs.Only.{only, only-map, only-both, only-take, only-if, kept, is-not, heads-kept, xmin-kept, next-kept}
-use Rattle.laws.specs.Beside.{beside, quiet}
+use Rattle.laws.specs.Beside.{quiet}
 use Rattle.laws.specs.Reads.{index-guards-quiet, release-quiet}
-
--- with other guards, postings and poison flag
-pub abort-beside : (g q ps : List ℕ) (n : ℕ) (b : Bool) (S : Store) (t : ℕ) → abortPuts (beside g q ps n b S) t ≡ abortPuts S t
-unfolding abortPuts
-abort-beside g q ps n b S t = refl
 
 -- abort's stores are the same after puts that change no head, next or xmin: after guards, postings, poison
 pub abort-as-it-stands : (ks : List ℕ) (ps : List Put) (S : Store) (t : ℕ) → only ks ps ≡ true

@@ -1,10 +1,10 @@
 -- The candidates of a lookup, from the fields of the store that it reads, one posting and one own write at a time.
 use mathlib.Core.Path.{_≡_, refl, sym, ap, _∙_}
-use mathlib.Core.Bool.{Bool, true, false}
+use mathlib.Core.Bool.{Bool, true}
 use mathlib.Core.List.{List, [], _∷_, _++_, map}
 use Prim.Native.Nat.{ℕ, _≤_}
 use native.Mathlib.Omega.{arith}
-use lib.ListN.{length, take, set, length-replicate}
+use lib.ListN.{length, take, set}
 use lib.Seq.{set-out}
 use lib.Dec.{eqb, ltb}
 use borrow.Author.Tests.{eq-eqb, ne-eqb, lt-ltb}
@@ -17,8 +17,7 @@ use Rattle.rules.specs.Transaction.{writesOf}
 use Rattle.rules.specs.Chains.{walk}
 use Rattle.rules.specs.Fit.{fit, writeFit}
 use Rattle.rules.specs.Calls.{candidates}
-use Rattle.view.specs.Lent.{flagsAtRows, array-same}
-use Rattle.view.specs.Marks.{markAll, mark-length, mark-append}
+use Rattle.view.specs.Marks.{markAll, mark-append}
 use Rattle.look.specs.Marks.{noRows, markedRows, rows-in-order}
 
 -- the rows of those of a list of postings that are of key k
@@ -94,9 +93,3 @@ fit-rows S x h = each (writesOf x) (every-cons _ _ (every-cons _ _ (every-cons _
     each : (l : List Write) → all (writeFit (S .xmin) (S .next) (walk (S .heads) (S .next) .seen) (x .txid .0)) l ≡ true → all (λ r. ltb r rows) (ownRows l) ≡ true
     each [] e = refl
     each (w ∷ l) e = let b = and-true _ _ e in rw (every-cons _ _ (b .0) .0) (each l (b .1))
-
--- the marks are as many as there are rows, so lent they read the same
-pub candidate-array : (postings : List ℕ) (count : ℕ) (x : Tx) (k : ℕ) → flagsAtRows (candidateMarks postings count x k) ≡ candidateMarks postings count x k
-unfolding candidateMarks noRows
-candidate-array postings count x k =
-    array-same rows false (markAll (candidateRows postings count x k) noRows) (mark-length (candidateRows postings count x k) noRows ∙ length-replicate rows false)

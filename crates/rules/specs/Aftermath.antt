@@ -6,7 +6,7 @@ use Prim.Native.Nat.{ℕ}
 use lib.ListN.{length, take}
 use lib.Dec.{eqb, ltb, leb}
 use Rattle.types.specs.Limits.{writeLimit}
-use Rattle.types.specs.Zero.{noWrite, onlyTxid, zeroTx}
+use Rattle.types.specs.Zero.{noWrite, onlyTxid}
 use Rattle.rules.specs.Bools.{clash, by, or-right}
 use Rattle.rules.specs.Lists.{isZero, pad}
 use Rattle.rules.specs.Types.{Store, Tx, Txid, Schedule, Record, Answer, Cut, Uncut, After, Fate, Closed, Undone, Standing, Refusal}

@@ -11,13 +11,13 @@ use Rattle.rules.specs.Types.{Store, Tx, Txid, RowId, SlotPtr, Write, Sc
 use Rattle.rules.specs.Transaction.{finals}
 use Rattle.rules.specs.Admitted.{resting}
 use Rattle.rules.specs.Numbers.{numberOf}
-use Rattle.rules.specs.Puts.{Put, kStripe, kPartition, kInsert, kRemove, kXmax, kHead, kFree, kDrop, kStamp, kPoison, kDoom, sets, putInsert, putRemove, putXmax, putHead, putFree, putDrop, putStamp, putPoison, putDoom, apply, applyAll, ownSlots, abortPuts}
-use Rattle.rules.specs.Changes.{changes, destinations, sources, changedStripes, recycled, publishOne, indexGuards, partitionGuards, release, insertions, removals, publication, recycling, stamping}
-use Rattle.rules.specs.Commit.{End, Clean, poison, fails, count, finish, abortOrPoison, rollback, runOf}
+use Rattle.rules.specs.Puts.{Put, kStripe, kPartition, kInsert, kRemove, kXmax, kHead, kFree, kDrop, kStamp, kPoison, kDoom, sets, putInsert, putRemove, putXmax, putHead, putFree, putDrop, putStamp, putPoison, putDoom, applyAll, ownSlots, abortPuts}
+use Rattle.rules.specs.Changes.{changes, destinations, sources, changedStripes, recycled, publishOne, release, insertions, removals, publication, recycling, stamping}
+use Rattle.rules.specs.Commit.{End, Clean, poison, fails, count, finish, abortOrPoison, rollback}
 use Rattle.rules.specs.Answer.{uncut, commit}
 use Rattle.rules.specs.Only.{only, only-both, only-map, only-take, only-if, kept, is-not}
 use Rattle.rules.specs.Guards.{applyAll-append, guards-zero, both-back}
-use Rattle.rules.specs.Outcome.{guardsTaken, afterInsert, afterRemove, afterPublish, afterRecycle, afterFinish, afterStamp, aborting, rollingBack, worse, undoing, abortingLate, Spoil, unremoved, unpublished, unrecycled, unfinished, Outcome, done, stays, aborts, uninserted, uncalled, spoils, unstamped, outcome}
+use Rattle.rules.specs.Outcome.{guardsTaken, aborting, worse, undoing, Spoil, unremoved, unpublished, unrecycled, unfinished, Outcome, done, stays, aborts, uninserted, uncalled, spoils, unstamped, outcome}
 use Rattle.rules.specs.Rows.{Admitted, whole, given-back}
 
 -- the kinds of a commit's puts other than guards

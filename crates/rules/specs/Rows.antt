@@ -1,14 +1,13 @@
 -- First theorems on the call: rows 1, 2, 3, 4 and 8 of "Numbers seen", when a commit succeeds, and how many stores a clean one makes.
-use mathlib.Core.Path.{_≡_, refl, sym, _∙_}
+use mathlib.Core.Path.{_≡_, refl, _∙_}
 use mathlib.Core.Bool.{Bool, true, false, not, cond, _&&_, _||_}
-use mathlib.Core.List.{List, [], _∷_, _++_, map}
-use mathlib.Core.Logic.{_⊎_, inl, inr}
+use mathlib.Core.List.{List, [], _∷_, _++_}
+use mathlib.Core.Logic.{_⊎_}
 use Prim.Native.Nat.{ℕ, _+_, _*_}
 use native.Mathlib.Omega.{arith}
 use lib.ListN.{length, length-append, length-map}
 use lib.Dec.{eqb, ltb}
-use borrow.Author.Tests.{eqb-true}
-use Rattle.rules.specs.Bools.{clash, by, and-true, or-false}
+use Rattle.rules.specs.Bools.{clash, by, and-true}
 use Rattle.rules.specs.Lists.{those, flat, memb, isZero}
 use Rattle.rules.specs.Types.{Store, Tx, Txid, SlotPtr, Write, Schedule, Answer, Cut, Uncut, After, Fate, Open, Closed, Refusal, NotResting, Unfit, NotActive, Conflict, CleanupFailed, CallbackFailed, CallbackPanicked}
 use Rattle.rules.specs.Store.{activeTxids}
@@ -19,9 +18,9 @@ use Rattle.rules.specs.Faults.{F, scheduleFit}
 use Rattle.rules.specs.Numbers.{numberOf, fateIn, fate, isDone}
 use Rattle.rules.specs.Puts.{Put, applyAll}
 use Rattle.rules.specs.Changes.{changes, destinations, sources, changedStripes, guardedStripes, guardedPartitions, indexGuards, partitionGuards, release, publishOne, publication, insertions, removals, recycled, recycling, stamping}
-use Rattle.rules.specs.Commit.{End, Clean, Run, runOf, strikes, fails, unloggedWrites, committed}
+use Rattle.rules.specs.Commit.{End, Clean, Run, runOf, strikes, fails, unloggedWrites}
 use Rattle.rules.specs.Answer.{uncut, cutOff, answer, unchanged, commit}
-use Rattle.rules.specs.Guards.{applyAll-append, guards-zero, index-back, both-back}
+use Rattle.rules.specs.Guards.{guards-zero, index-back, both-back}
 use Rattle.rules.specs.Outcome.{Struck, struck, Taken, neither, index, both, Stay, faulted, durable, conflicting, Abort, unprepared, panicked, busy, conflict, unhealthy, Passed, Spoil, unremoved, unpublished, unrecycled, unfinished, afterStamp, aborting, worse, panics, abortingLate, bad, Outcome, done, stays, aborts, uninserted, uncalled, spoils, unstamped, outcome}
 
 -- what a commit is admitted with: numbers 1, 2 and 3 don't apply

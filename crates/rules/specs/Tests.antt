@@ -1,9 +1,9 @@
 -- The four tests of commit, each "to the first yes".
-use mathlib.Core.Bool.{Bool, true, false, not, cond, _&&_, _||_}
+use mathlib.Core.Bool.{Bool, not, _&&_, _||_}
 use mathlib.Core.List.{List, [], _∷_}
 use Prim.Native.Nat.{ℕ}
 use lib.ListN.{getD}
-use lib.Dec.{eqb, ltb, leb}
+use lib.Dec.{eqb, leb}
 use Rattle.rules.specs.Lists.{any, memb}
 use Rattle.rules.specs.Types.{Store, Tx, Txid, Write, ReadRecord, IndexRead}
 use Rattle.rules.specs.Transaction.{writesOf, readsOf, indexReadsOf, snapshotOf, finalWrites}

@@ -7,7 +7,7 @@ use native.Mathlib.Omega.{arith}
 use lib.Dec.{eqb, ltb}
 use lib.ListN.{length, getD}
 use borrow.Author.Tests.{ltb-true, ltb-false, le-leb, lt-ltb, ne-eqb, not-true, eqb-false}
-use Rattle.types.specs.Limits.{keyEnd, clockEnd}
+use Rattle.types.specs.Limits.{keyEnd}
 use Rattle.rules.specs.Lists.{all}
 use Rattle.rules.specs.Bools.{by, clash, and-true}
 use Rattle.rules.specs.Script.{Bytes, isDigit, valueOf, isNumber, decimal}
@@ -120,7 +120,3 @@ number-small (b ∷ c ∷ w) e = ltb-true _ _ (and-true (all isDigit (b ∷ c �
 
 pub number-digits : (n : ℕ) → all isDigit (decimal 20 n []) ≡ true
 number-digits n = all-digits 20 n [] refl
-
--- twenty digits hold every 64-bit number
-pub number-written : (n : ℕ) → n ≤ clockEnd → valueOf 0 (decimal 20 n []) ≡ n
-number-written n l = value-decimal 20 n [] (omega arith)

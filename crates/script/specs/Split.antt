@@ -11,7 +11,7 @@ use lib.Seq.{drop-cons, take-all, length-take-le}
 use borrow.Author.Tests.{eq-eqb, ne-eqb, ltb-true, ltb-false}
 use Rattle.rules.specs.Bools.{by}
 use Rattle.rules.specs.Replay.{lineBad}
-use Rattle.rules.specs.Script.{Bytes, onFirst, split, linesIn, form, lineOf, parse}
+use Rattle.rules.specs.Script.{Bytes, onFirst, split, form, lineOf}
 
 -- how many bytes stand before the first c
 unfoldable pub upTo : ℕ → Bytes → ℕ
@@ -96,31 +96,3 @@ no-letter s {a} e n =
     by (ltb a (length s))
     (λ l. rw (split-first 9 s e (ltb-true _ _ l)) (not-one (take a s) (split 9 (after s a)) (λ o. n (sym (length-take-le a s (omega (arith, ltb-true))) ∙ o))))
     (λ l. let h : a ≡ length s = omega (arith, up-to-fits 9 s, ltb-false) in rw (split-last 9 s e h) (not-one s [] (λ o. n (h ∙ o))))
-
--- the script, line by line: the end, a last line without a line feed, a line with one
-lines-all : (s : Bytes) → 0 < length s → upTo 10 s ≡ length s → linesIn s ≡ s ∷ []
-unfolding upTo
-lines-all [] h e = absurd (omega arith)
-lines-all (b ∷ []) h e = by (eqb b 10) (λ t. absurd (omega (arith, rw t at e))) (λ t. rw t)
-lines-all (b ∷ c ∷ s) h e =
-    by (eqb b 10)
-    (λ t. absurd (omega (arith, rw t at e)))
-    (λ t. rw (t, lines-all (c ∷ s) (omega arith) (omega (arith, rw t at e))))
-
-lines-cut : (s : Bytes) → upTo 10 s < length s → linesIn s ≡ take (upTo 10 s) s ∷ linesIn (drop (suc (upTo 10 s)) s)
-unfolding upTo
-lines-cut [] h = absurd (omega arith)
-lines-cut (b ∷ s) h = by (eqb b 10) (λ t. rw t) (λ t. rw (t, lines-cut s (omega (arith, rw t at h))))
-
-pub parse-none : (s : Bytes) → length s ≡ 0 → parse s ≡ []
-unfolding parse
-parse-none [] e = refl
-parse-none (b ∷ s) e = absurd (omega arith)
-
-pub parse-last : (s : Bytes) {a : ℕ} → a ≡ upTo 10 s → a ≡ length s → 0 < length s → parse s ≡ lineOf (split 9 s) ∷ []
-unfolding parse
-parse-last s e l h = rw (lines-all s h (sym e ∙ l))
-
-pub parse-first : (s : Bytes) {a : ℕ} → a ≡ upTo 10 s → a < length s → parse s ≡ lineOf (split 9 (take a s)) ∷ parse (after s a)
-unfolding parse
-parse-first s {a} e h = rw (after-drop s a, e, lines-cut s (omega arith))

@@ -9,23 +9,14 @@ use lib.Seq.{getD-set-same, getD-set-other, set-out}
 use lib.Dec.{eqb, ltb}
 use borrow.Author.Tests.{eq-eqb, ne-eqb, eqb-true, eqb-false, ltb-true, ltb-false}
 use Rattle.types.specs.Limits.{faultLimit}
-use Rattle.rules.specs.Types.{Store, Tx, Fault, Schedule}
+use Rattle.rules.specs.Types.{Fault, Schedule}
 use Rattle.rules.specs.Bools.{by}
 use Rattle.rules.specs.Faults.{faultAt, faultsOf}
-use Rattle.rules.specs.Commit.{strikes, count}
 use Rattle.steps.specs.declared.faults.Letters.{Letters}
 
 -- a letter strikes at a step: commit's own test, from the schedule alone
 unfoldable pub struckBy : Schedule → ℕ → ℕ → Bool
 struckBy plan n letter = eqb (faultAt n (faultsOf plan) .letter) letter
-
-pub struck-by : (S : Store) (x : Tx) (logged : Bool) (plan : Schedule) (n letter : ℕ) → strikes S x logged plan n letter ≡ struckBy plan n letter
-unfolding strikes struckBy
-struck-by S x logged plan n letter = refl
-
-pub count-by : (S : Store) (x : Tx) (logged : Bool) (plan : Schedule) (n : ℕ) → count S x logged plan n ≡ faultAt n (faultsOf plan) .k
-unfolding count
-count-by S x logged plan n = refl
 
 -- one fault f more, before those in which the fault at a step was sought: it is of the step, or the others decide
 module _ (n : ℕ) (f : Fault) (l fs : List Fault) (next : l ≡ f ∷ fs) where

@@ -1,5 +1,5 @@
 -- `settled` meets its contract.
-use mathlib.Core.Path.{_≡_, sym, _∙_}
+use mathlib.Core.Path.{_≡_, _∙_}
 use borrow.Author.Needs.{needs}
 use Rattle.admit.specs.Used.{settledBy}
 use Rattle.admit.proofs.chains.settled.Statement.{statement}

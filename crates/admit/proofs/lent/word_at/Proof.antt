@@ -1,6 +1,5 @@
 -- `word_at` meets its contract.
 use mathlib.Core.Path.{sym}
-use native.Mathlib.Omega.{arith}
 use borrow.Author.Needs.{needs}
 use Rattle.view.specs.Lent.{array-at, array-past}
 use Rattle.admit.proofs.lent.word_at.Statement.{statement}

@@ -1,6 +1,4 @@
 -- `bit_of` meets its contract.
-use borrow.Author.Needs.{needs}
-use borrow.Author.Tests.{ne-eqb}
 use Rattle.admit.specs.Allowed.{no-bit}
 use Rattle.admit.proofs.schedule.bit_of.Statement.{statement}
 use Rattle.admit.proofs.schedule.bit_of.Tie as tie

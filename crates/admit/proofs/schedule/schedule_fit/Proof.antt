@@ -2,7 +2,6 @@
 use mathlib.Core.Path.{_≡_}
 use mathlib.Core.Logic.{⊎-elim}
 use native.Mathlib.Omega.{arith}
-use borrow.Author.Needs.{needs}
 use lib.ListN.{take}
 use Rattle.types.specs.Limits.{faultLimit}
 use Rattle.types.specs.Zero.{noFault}

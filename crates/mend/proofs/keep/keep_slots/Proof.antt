@@ -4,7 +4,6 @@ use mathlib.Core.Bool.{false}
 use Prim.Native.Nat.{_-_, _≤_}
 use native.Mathlib.Omega.{arith}
 use borrow.Author.Tests.{not-true, not-false}
-use lib.ListN.{length, length-set}
 use Rattle.types.specs.Limits.{places}
 use Rattle.mend.specs.Keep.{Kept, kept-start, kept-clear, kept-stay, kept-end}
 use borrow.Author.Needs.{needs}
