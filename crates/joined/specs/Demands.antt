@@ -18,14 +18,26 @@ use Rattle.rules.specs.Answer.{commit}
 use Rattle.rules.specs.Recovery.{recover}
 use Rattle.laws.specs.Sized.{Sized}
 use Rattle.heart.specs.Recovery.{Keyed}
+use Rattle.index.specs.Table.{firstRow}
+use Rattle.index.specs.Numbers.{commitRows, doneRow}
+use Rattle.index.specs.Seen.{Leaves, Told}
+use Rattle.demands.specs.Demand1.{demand-1}
 use Rattle.demands.specs.Demand2.{Conflicts, Committed, demand-2, demand-2-leaves}
 use Rattle.demands.specs.Demand3.{Safe, demand-3}
+use Rattle.joined.specs.Answers.{Answers}
 use Rattle.joined.specs.Quiet.{Quiet}
 
 -- a list whose places all hold keys
 pub all-keys : (l : List ℕ) → ((i : ℕ) → getD l i 0 < keyEnd) → all (λ k. ltb k keyEnd) l ≡ true
 all-keys [] h = refl
 all-keys (k ∷ l) h = and-both (ltb k keyEnd) (all (λ k. ltb k keyEnd) l) (lt-ltb k keyEnd (h 0)) (all-keys l (λ i. h (suc i)))
+
+-- demand 1, of an answer that is the definition's
+pub answers-by-table : (S : Store) (x : Tx) (logged : Bool) (plan : Schedule) (cut : Cut) → Sized S → {a : Answer} → a ≡ commit S x logged plan cut
+    → Answers x a (firstRow (commitRows S x logged plan cut) (doneRow S x logged plan))
+answers-by-table S x logged plan cut z e =
+    let t = demand-1 S x logged plan z cut .by-first in
+    rw e (record { refusal = t .refusal; «record» = t .«record»; store = t .store; tx = t .tx })
 
 module _ (S : Store) (x : Tx) (logged : Bool) (z : Sized S) (k : Keyed S) where
   -- demand 2, of an answer that is the definition's

@@ -1,2 +1,3 @@
+pub mod Answers
 pub mod Quiet
 pub mod Demands

@@ -9,8 +9,11 @@ ghost use Rattle.rules.specs.Admitted.{resting};
 ghost use Rattle.rules.specs.Numbers.{numberOf, isDone};
 ghost use Rattle.rules.specs.Answer.{commit};
 ghost use Rattle.rules.specs.Recovery.{recover};
+ghost use Rattle.index.specs.Table.{firstRow};
+ghost use Rattle.index.specs.Numbers.{commitRows, doneRow};
 ghost use Rattle.demands.specs.Demand2.{Conflicts, Committed};
 ghost use Rattle.demands.specs.Demand3.{Safe};
+ghost use Rattle.joined.specs.Answers.{Answers};
 ghost use Rattle.joined.specs.Quiet.{Quiet};
 use commit::commit;
 use mend::recover;
@@ -20,6 +23,13 @@ use types::Mended;
 use types::Schedule;
 use types::Store;
 use types::Tx;
+
+// Demand 1: whatever arrives, the answer is that of the first row of "Numbers seen" that applies.
+pub fn commit_by_table(s: Store, x: Tx, logged: bool, plan: Schedule, cut: Cut) -> Answer
+    ensures { λ a. ⌜ Answers x a (firstRow (commitRows s x logged plan cut) (doneRow s x logged plan)) ⌝ }
+{
+    commit(s, x, logged, plan, cut)
+}
 
 // Demand 2: no fault, no cut.
 pub fn commit_quietly(s: Store, x: Tx, logged: bool) -> Answer
