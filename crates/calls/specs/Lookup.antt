@@ -13,7 +13,7 @@ use Rattle.rules.specs.Store.{stripeOf}
 use Rattle.rules.specs.Transaction.{readsOf, indexReadsOf, withReads, withIndexReads}
 use Rattle.rules.specs.Fit.{fit}
 use Rattle.rules.specs.Numbers.{Try, refuse, tries, isDone}
-use Rattle.rules.specs.Calls.{admits, admitsHealthy, recordReads, recordStamp, candidates, matching, asRow, lookup}
+use Rattle.rules.specs.Calls.{admitsHealthy, recordReads, recordStamp, candidates, matching, asRow, lookup}
 use Rattle.laws.specs.Sized.{Sized}
 use Rattle.view.specs.Lent.{atRows, atPlaces, flagsAtPlaces, flagsAtRows, atPostings, atStripes, array-same}
 use Rattle.view.specs.Marks.{mark-length}
@@ -26,6 +26,7 @@ use Rattle.look.specs.Stamps.{indexReadList, indexConflict}
 use Rattle.look.specs.declared.reads.ReadList.{ReadList}
 use Rattle.look.specs.declared.stamps.IndexReadList.{IndexReadList}
 use Rattle.look.specs.declared.lookup.RowList.{RowList}
+use Rattle.admit.specs.Admission.{admitted}
 use Rattle.calls.specs.Refused.{unless, poisonedTries, found-healthy, both-done, admitted-both, choose, choose-done, choose-refused}
 use Rattle.calls.specs.Whole.{heads-whole, next-whole, xmin-whole, key-whole, has-whole, postings-whole, stamps-whole}
 
@@ -98,17 +99,17 @@ module _ (S : Store) (x : Tx) (k : ℕ) where
   answer = refl
 
   -- as code finds it
-  module _ (z : Sized S) {marks : List Bool} {l : ReadList} {admitted first why : Refusal}
+  module _ (z : Sized S) {marks : List Bool} {l : ReadList} {tried first why : Refusal}
       (c : marks ≡ candidateMarks (atPostings (S .postings)) (S .«posting_count») x k)
       (h : l ≡ laid (recordReadsOf (atRows (S .heads)) (atPlaces (S .next)) (atPlaces (S .xmin)) x (markedRows (flagsAtRows marks)) (readsOf x)))
-      (a : admitted ≡ admits S x [])
-      (e : first ≡ unless admitted (poisonedTries (S .poisoned)))
+      (a : tried ≡ admitted S x true)
+      (e : first ≡ unless tried (poisonedTries (S .poisoned)))
       (f : why ≡ unless first (lookupTries (l .over))) where
     list-is : fit S x ≡ true → l ≡ laid reads-after
     list-is ok = (rw (heads-whole S z, next-whole S z, xmin-whole S z, rows-marked S x k marks z ok c) at h) ∙ ap laid (sym (record-reads S x (candidates S x k) (readsOf x)))
 
     why-is : why ≡ lookupWhy
-    why-is = found-healthy S x (lookupTests (ltb readLimit (length reads-after))) admitted first why (lookupTries (l .over)) a e f (λ ok. lookup-tries l reads-after (list-is ok))
+    why-is = found-healthy S x (lookupTests (ltb readLimit (length reads-after))) tried first why (lookupTries (l .over)) a e f (λ ok. lookup-tries l reads-after (list-is ok))
 
     pub lookup-refused : isDone why ≡ false → record { refusal = why; rows = replicate rows (asRow 0); count = 0; tx = x } ≡ lookup S x k
     lookup-refused d = choose-refused done refused why _ why-is d ∙ answer

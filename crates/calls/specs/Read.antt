@@ -11,12 +11,13 @@ use Rattle.rules.specs.Types.{Store, Tx, Value, Absent, Seen, ReadRecord, Refus
 use Rattle.rules.specs.Store.{valueAt}
 use Rattle.rules.specs.Transaction.{readsOf, withReads}
 use Rattle.rules.specs.Numbers.{Try, refuse, tries, isDone}
-use Rattle.rules.specs.Calls.{admits, admitsHealthy, recordRead, readPtr, read}
+use Rattle.rules.specs.Calls.{admitsHealthy, recordRead, readPtr, read}
 use Rattle.laws.specs.Sized.{Sized}
 use Rattle.view.specs.Lent.{atRows, atPlaces, flagsAtPlaces}
 use Rattle.look.specs.Found.{readPtrOf, read-ptr}
 use Rattle.look.specs.Reads.{laid, recordReadOf, record-read}
 use Rattle.look.specs.declared.reads.ReadList.{ReadList}
+use Rattle.admit.specs.Admission.{admitted}
 use Rattle.calls.specs.Refused.{unless, poisonedTries, found-healthy, both-done, choose, choose-done, choose-refused}
 use Rattle.calls.specs.Whole.{heads-whole, next-whole, xmin-whole, key-whole, has-whole}
 
@@ -58,16 +59,16 @@ module _ (S : Store) (x : Tx) (r : ℕ) where
   answer = refl
 
   -- as code finds it
-  module _ (z : Sized S) {l : ReadList} {admitted first why : Refusal}
+  module _ (z : Sized S) {l : ReadList} {tried first why : Refusal}
       (h : l ≡ laid (recordReadOf (atRows (S .heads)) (atPlaces (S .next)) (atPlaces (S .xmin)) x r (readsOf x)))
-      (a : admitted ≡ admits S x [])
-      (e : first ≡ unless admitted (poisonedTries (S .poisoned)))
+      (a : tried ≡ admitted S x true)
+      (e : first ≡ unless tried (poisonedTries (S .poisoned)))
       (f : why ≡ unless first (readTries r (l .over))) where
     list-is : l ≡ laid reads-after
     list-is = (rw (heads-whole S z, next-whole S z, xmin-whole S z) at h) ∙ ap laid (sym (record-read S x r (readsOf x)))
 
     why-is : why ≡ readWhy
-    why-is = found-healthy S x (readTests r (ltb readLimit (length reads-after))) admitted first why (readTries r (l .over)) a e f (λ _. read-tries r l reads-after list-is)
+    why-is = found-healthy S x (readTests r (ltb readLimit (length reads-after))) tried first why (readTries r (l .over)) a e f (λ _. read-tries r l reads-after list-is)
 
     pub read-refused : isDone why ≡ false → record { refusal = why; value = Absent; tx = x } ≡ read S x r
     read-refused d = choose-refused done refused why _ why-is d ∙ answer

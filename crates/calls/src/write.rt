@@ -8,8 +8,8 @@ ghost use Rattle.journal.specs.Journal.{placeBase};
 ghost use Rattle.journal.specs.Adds.{Adds};
 ghost use Rattle.calls.specs.Refused.{unless};
 ghost use Rattle.calls.specs.Write.{writeTries};
-use super::admission::admits;
 use super::refusal::healthy;
+use admit::admission::admitted;
 use admit::admission::is_done;
 use journal::Journal;
 use journal::Kind;
@@ -70,8 +70,8 @@ pub fn write(s: Store, x: Tx, r: RowId, v: Value) -> Written
     ensures { λ q. ⌜ q ≡ write s x (r .0) v ⌝ }
 {
     let free = lowest_free(&s.xmin);
-    let admitted = admits(s, x);
-    let first = healthy(admitted, s.poisoned);
+    let tried = admitted(s, x, true);
+    let first = healthy(tried, s.poisoned);
     let why = write_refusal(first, r, x.write_count, free);
     if !is_done(why) {
         return Written {
