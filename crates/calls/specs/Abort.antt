@@ -20,7 +20,7 @@ use Rattle.rules.specs.Puts.{Put, putFree, putDrop, ownSlots, abortPuts, applyA
 use Rattle.rules.specs.Calls.{admits, abort}
 use Rattle.journal.specs.Journal.{Pushed}
 use Rattle.journal.specs.Holds.{kept-wide}
-use Rattle.admit.specs.Row.{marks-array}
+use Rattle.view.specs.Walked.{marks-array}
 use Rattle.view.specs.Few.{those-few}
 use Rattle.view.specs.Lent.{atRows, atPlaces, array-cons, array-end}
 use Rattle.look.specs.Slots.{ownSlot, own-slots}

@@ -7,7 +7,6 @@ ghost use Rattle.view.specs.Lent.{atRows, atPlaces};
 ghost use Rattle.calls.specs.Abort.{ownFrees, abortPutsOf};
 use admit::admission::admitted;
 use admit::admission::is_done;
-use admit::walk::walk_all;
 use journal::Journal;
 use journal::Kind;
 use look::changed::only_txid;
@@ -18,6 +17,7 @@ use types::SlotPtr;
 use types::Store;
 use types::Tx;
 use types::Txid;
+use view::walk::walk_all;
 
 // A free for each off-chain slot of t, rising, by the marks of the walk.
 fn push_own<'a>(

@@ -18,7 +18,7 @@ use Rattle.rules.specs.Commit.{count, strikes, runOf}
 use Rattle.rules.specs.Gates.{Gate, gates}
 use Rattle.journal.specs.Journal.{Holds}
 use Rattle.journal.specs.Adds.{Adds}
-use Rattle.admit.specs.Walked.{walk-long}
+use Rattle.view.specs.Walked.{walk-long}
 use Rattle.view.specs.Lent.{array, array-same, atRows, atPlaces}
 use Rattle.steps.specs.declared.finals.Finals.{Finals}
 use Rattle.steps.specs.Faults.{struckBy}

@@ -8,7 +8,6 @@ ghost use Rattle.rules.specs.Fit.{fit};
 ghost use Rattle.rules.specs.Faults.{X, Q};
 ghost use Rattle.steps.specs.Faults.{struckBy};
 ghost use Rattle.plan.specs.Planned.{planOf, struckOf};
-use admit::walk::walk_all;
 use plan::run::Plan;
 use plan::run::Struck;
 use plan::run::plan_of;
@@ -19,6 +18,7 @@ use types::RowId;
 use types::Schedule;
 use types::SlotPtr;
 use types::Tx;
+use view::walk::walk_all;
 
 // The plan, from the store's arrays and the transaction.
 pub fn plan_for<'a>(

@@ -4,7 +4,7 @@ use super::bench::Bench;
 use super::fate::fate_in;
 use super::sight;
 use super::trial::Trial;
-use admit::store::resting;
+use resting::rest::resting;
 use types::Answer;
 use types::Fate;
 use types::Fault;

@@ -1,9 +1,9 @@
 // What the rows show.
 
 use super::bench::Bench;
-use admit::store::resting;
 use look::slots::value_at;
 use mend::recover;
+use resting::rest::resting;
 use script::refusal::number_of;
 use types::RowId;
 use types::SlotPtr;
