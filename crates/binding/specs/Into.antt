@@ -1,26 +1,24 @@
 -- A replay into a buffer: too short a one, and one with the room.
 use mathlib.Core.Path.{_≡_, refl, sym, ap, _∙_}
-use mathlib.Core.List.{[], _++_}
-use Prim.Native.Nat.{ℕ, _+_, _^_, _<_, _≤_}
+use mathlib.Core.List.{_++_}
+use Prim.Native.Nat.{ℕ, _+_, _-_, _^_, _<_, _≤_}
 use native.Mathlib.Omega.{arith}
-use lib.ListN.{length, take, length-append}
-use lib.Seq.{take-length, take-append-add, take-append-le}
+use lib.ListN.{length, take, drop, take-append-drop, length-append, length-take, length-drop}
+use lib.Seq.{take-length, take-append-add, take-append-le, drop-append-add, drop-append-le, drop-drop}
 use borrow.Author.Tests.{le-leb, lt-leb}
 use Rattle.rules.specs.Script.{Bytes, replayText}
 use Rattle.desk.specs.declared.feed.Fed.{Fed}
-use Rattle.desk.specs.Feed.{Reading, answerRoom, fed, ended, first, reading, Feeds}
-use Rattle.binding.specs.Room.{roomFor, roomIn, answersIn, Replayed}
-use Rattle.binding.specs.RoomLaws.{fed-short, feeds-taken, whole, room-enough, room-short}
+use Rattle.desk.specs.Feed.{Reading, answerRoom, fed, ended, first, reading, Feeds, endedIn, Finishes}
+use Rattle.desk.specs.Put.{alike-on}
+use Rattle.binding.specs.Room.{roomFor, answersIn, Replayed}
+use Rattle.binding.specs.RoomLaws.{fed-short, feeds-taken, whole}
 
-pub into-short : (s out : Bytes) → length out < 2 ^ 63 → length out < roomIn s → Replayed s out 0
+pub into-short : (s out : Bytes) → length out < roomFor s → Replayed s out out 0
 unfolding answersIn
-into-short s out few h = record { inside = omega arith; answers = rw (lt-leb _ _ (room-short s (length out) few h)) refl }
+into-short s out h = record { inside = omega arith; answers = rw (lt-leb _ _ h); rest = refl }
 
 -- fed at once into a buffer with the room, then ended behind the answers
-module _ (s mid : Bytes) {a : Reading} {f : Fed} (few : length mid < 2 ^ 63) (room : roomIn s ≤ length mid) (new : a ≡ first) (g : Feeds a s mid f) where
-  enough : roomFor s ≤ length mid
-  enough = room-enough s (length mid) few room
-
+module _ (s out mid : Bytes) {a : Reading} {f : Fed} (few : length mid < 2 ^ 63) (enough : roomFor s ≤ length mid) (new : a ≡ first) (g : Feeds a s out mid f) where
   left-over : f .count + answerRoom ≤ length mid
   left-over =
       let t = take (f .taken) s in
@@ -30,15 +28,40 @@ module _ (s mid : Bytes) {a : Reading} {f : Fed} (few : length mid < 2 ^ 63) (ro
   all-taken : fed (take (f .taken) s) a ≡ fed s first
   all-taken = rw (g .all left-over, take-length s, new)
 
-  pub into-room : (end post : Bytes) (k : ℕ) → length (take (f .count) mid ++ (end ++ post)) ≡ length mid → length mid ≤ f .count + length end → k ≤ length end
-      → (answerRoom ≤ length end → take k end ≡ ended (reading (f .replay))) → Replayed s (take (f .count) mid ++ (end ++ post)) (f .count + k)
-  unfolding answersIn
-  into-room end post k l m h z =
-      let n = f .count in
-      let at : length (take n mid) ≡ n = sym (g .fits .many) in
-      let both : take (n + k) (take n mid ++ (end ++ post)) ≡ take n mid ++ take k end = (rw at at (take-append-add (take n mid) (end ++ post) k)) ∙ rw (take-append-le k end post h) in
-      let text : take n mid ++ take k end ≡ replayText s = rw (g .answers, z (omega (arith, left-over)), g .state, all-taken) (whole s (omega (arith, enough))) in
-      record {
-        inside = omega (arith, left-over, length-append (take n mid) (end ++ post), length-append end post);
-        answers = both ∙ text ∙ rw (l, le-leb _ _ enough);
-      }
+  abbrev behind : Bytes
+  behind = take (length mid - f .count) (drop (f .count) mid)
+
+  abbrev post : Bytes
+  post = drop (length mid - f .count) (drop (f .count) mid)
+
+  module _ (end : Bytes) (k : ℕ) (long : length end ≡ length behind) (z : Finishes (reading (f .replay)) behind end k) where
+    far : length end ≡ length mid - f .count
+    far = omega (arith, long, length-take (length mid - f .count) (drop (f .count) mid), length-drop (f .count) mid)
+
+    front : length (take (f .count) mid) ≡ f .count
+    front = sym (g .fits .many)
+
+    laid : length (take (f .count) mid ++ (end ++ post)) ≡ length mid
+    laid =
+        omega
+        (arith, far, front, left-over, length-append (take (f .count) mid) (end ++ post), length-append end post, length-drop (length mid - f .count) (drop (f .count) mid), length-drop (f .count) mid)
+
+    text : take (f .count) mid ++ take k end ≡ replayText s
+    unfolding endedIn
+    text = rw (g .answers, z .answers, le-leb answerRoom (length end) (omega (arith, far, left-over)), g .state, all-taken) (whole s (omega (arith, enough)))
+
+    as-it-was : drop (f .count + k) (take (f .count) mid ++ (end ++ post)) ≡ drop (f .count + k) out
+    as-it-was =
+        (rw front at (drop-append-add (take (f .count) mid) (end ++ post) k))
+        ∙ drop-append-le k end post (z .fits .there)
+        ∙ ap (λ l. l ++ post) (z .rest)
+        ∙ sym (drop-append-le k behind post (omega (arith, long, z .fits .there)))
+        ∙ ap (drop k) (take-append-drop (length mid - f .count) (drop (f .count) mid))
+        ∙ drop-drop k (f .count) mid
+        ∙ alike-on mid out {n = f .count} {m = f .count + k} (omega arith) (g .rest)
+
+    pub into-room : Replayed s out (take (f .count) mid ++ (end ++ post)) (f .count + k)
+    unfolding answersIn
+    into-room =
+        let both : take (f .count + k) (take (f .count) mid ++ (end ++ post)) ≡ take (f .count) mid ++ take k end = (rw front at (take-append-add (take (f .count) mid) (end ++ post) k)) ∙ rw (take-append-le k end post (z .fits .there)) in
+        record { inside = omega (arith, laid, far, left-over, z .fits .there); answers = both ∙ text ∙ rw (laid, le-leb _ _ enough); rest = as-it-was }

@@ -4,7 +4,7 @@ use mathlib.Core.Bool.{cond}
 use mathlib.Core.List.{[], _∷_}
 use Prim.Native.Nat.{ℕ, suc, _+_, _-_, _*_, _^_, _≤_}
 use lib.Dec.{eqb, leb}
-use lib.ListN.{length, take}
+use lib.ListN.{length, take, drop}
 use Rattle.rules.specs.Script.{Bytes, replayText}
 use Rattle.desk.specs.Feed.{answerRoom}
 
@@ -27,6 +27,7 @@ roomIn s = cond (leb (roomFor s) most) (roomFor s) most
 unfoldable pub answersIn : ℕ → Bytes → Bytes
 answersIn n s = cond (leb (roomFor s) n) (replayText s) []
 
-pub record Replayed (script out : Bytes) (r : ℕ) : Type 0 where
-  pub inside : r ≤ length out
-  pub answers : take r out ≡ answersIn (length out) script
+pub record Replayed (script out after : Bytes) (r : ℕ) : Type 0 where
+  pub inside : r ≤ length after
+  pub answers : take r after ≡ answersIn (length after) script
+  pub rest : drop r after ≡ drop r out

@@ -4,10 +4,10 @@ use mathlib.Core.List.{List, [], _∷_, _++_, append-nil}
 use Prim.Native.Nat.{ℕ, zero, suc, _+_, _*_, _/_, _%_, _^_, _<_, _≤_}
 use native.Mathlib.Numerals.{add-one}
 use native.Mathlib.Omega.{arith}
-use lib.Dec.{eqb, ltb, leb}
+use lib.Dec.{eqb, ltb}
 use lib.ListN.{length, getD, take, drop, length-append, drop-of-length-le}
 use lib.Seq.{drop-cons}
-use borrow.Author.Tests.{eq-eqb, ne-eqb, le-leb, lt-leb, ltb-true, ltb-false, leb-true, leb-false}
+use borrow.Author.Tests.{eq-eqb, ne-eqb, le-leb, lt-leb, ltb-true, ltb-false}
 use Rattle.rules.specs.Bools.{by}
 use Rattle.rules.specs.Replay.{Third, num, dash, Out, turn}
 use Rattle.rules.specs.Script.{Bytes, onFirst, split, lineOf, linesIn, decimal, third, write, replayText}
@@ -101,16 +101,3 @@ module _ (s : Bytes) where
   pub room-most : most < roomFor s → most ≡ roomIn s
   unfolding roomIn
   room-most h = rw (lt-leb _ _ h)
-
-  -- a buffer of fewer than 2^63 bytes, as all are, has the room or has not
-  pub room-enough : (n : ℕ) → n < 2 ^ 63 → roomIn s ≤ n → roomFor s ≤ n
-  room-enough n few h =
-      by (leb (roomFor s) most)
-      (λ t. omega (arith, room-is (leb-true _ _ t)))
-      (λ t. absurd (omega (arith, room-most (leb-false _ _ t))))
-
-  pub room-short : (n : ℕ) → n < 2 ^ 63 → n < roomIn s → n < roomFor s
-  room-short n few h =
-      by (leb (roomFor s) most)
-      (λ t. omega (arith, room-is (leb-true _ _ t)))
-      (λ t. omega (arith, leb-false (roomFor s) most t))

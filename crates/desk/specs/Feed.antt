@@ -2,9 +2,9 @@
 use mathlib.Core.Path.{_≡_}
 use mathlib.Core.Bool.{cond}
 use mathlib.Core.List.{List, [], _∷_, _++_}
-use Prim.Native.Nat.{ℕ, _+_, _*_, _%_, _^_, _≤_}
-use lib.Dec.{eqb}
-use lib.ListN.{length, take}
+use Prim.Native.Nat.{ℕ, _+_, _%_, _^_, _<_, _≤_}
+use lib.Dec.{eqb, leb}
+use lib.ListN.{length, take, drop}
 use Rattle.rules.specs.Replay.{Desk, start, turn}
 use Rattle.rules.specs.Script.{Bytes, split, lineOf, write}
 use Rattle.script.specs.Print.{room}
@@ -80,11 +80,21 @@ pub record Counted (n : ℕ) (out : Bytes) : Type 0 where
   pub there : n ≤ length out
   pub many : n ≡ length (take n out)
 
--- bytes of a part were taken, at most one answer for each; all of them, where the room for one more answer is left
-pub record Feeds (s : Reading) (part out : Bytes) (f : Fed) : Type 0 where
+-- bytes of a part were taken, each with room for one more answer, and no byte is left that has it; behind the answers nothing is written
+pub record Feeds (s : Reading) (part out after : Bytes) (f : Fed) : Type 0 where
   pub within : f .taken ≤ length part
-  pub fits : Counted (f .count) out
+  pub fits : Counted (f .count) after
   pub state : reading (f .replay) ≡ fed (take (f .taken) part) s .state
-  pub answers : take (f .count) out ≡ fed (take (f .taken) part) s .answers
-  pub few : f .count ≤ answerRoom * f .taken
-  pub all : f .count + answerRoom ≤ length out → f .taken ≡ length part
+  pub answers : take (f .count) after ≡ fed (take (f .taken) part) s .answers
+  pub rest : drop (f .count) after ≡ drop (f .count) out
+  pub room : (i : ℕ) → i < f .taken → length (fed (take i part) s .answers) + answerRoom ≤ length after
+  pub all : f .count + answerRoom ≤ length after → f .taken ≡ length part
+
+-- what the end is answered where there is room for so many bytes
+unfoldable pub endedIn : ℕ → Reading → Bytes
+endedIn n s = cond (leb answerRoom n) (ended s) []
+
+pub record Finishes (s : Reading) (out after : Bytes) (n : ℕ) : Type 0 where
+  pub fits : Counted n after
+  pub answers : take n after ≡ endedIn (length after) s
+  pub rest : drop n after ≡ drop n out

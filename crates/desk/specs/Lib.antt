@@ -1,6 +1,3 @@
--- One line at one place.
-pub mod Turn
-pub mod Lines
 -- A script in parts.
 pub mod Feed
 pub mod Held

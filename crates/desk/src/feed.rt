@@ -1,17 +1,18 @@
 // A script fed in parts of any size: each line is answered where it ends. The loop owns the store and the transactions.
 
 ghost use mathlib.Core.Path.{_≡_};
-ghost use Prim.Native.Nat.{_≤_};
-ghost use lib.ListN.{length, take};
-ghost use Rattle.desk.specs.Feed.{answerRoom, ended, first, reading, Counted, Feeds};
+ghost use Prim.Native.Nat.{_+_, _≤_};
+ghost use lib.ListN.{length};
+ghost use Rattle.desk.specs.Feed.{answerRoom, first, reading, Feeds, Finishes};
+ghost use Rattle.desk.specs.FeedLaws.{Ends};
 use super::answer::put_answer;
 use super::held::Held;
 use super::held::line_in;
 use super::held::with_byte;
-use super::turn::place_of;
-use super::turn::turn;
 use script::Line;
 use script::print::Text;
+use turn::place_of;
+use turn::turn;
 use types::Schedule;
 use types::Store;
 use types::Tx;
@@ -32,6 +33,12 @@ pub struct Fed {
     pub count: usize,
 }
 
+// What the end of a line leaves, and how many bytes the answers have with its own.
+struct Ended {
+    replay: Replay,
+    count: usize,
+}
+
 // "It starts from the empty store and zero transactions".
 pub fn start() -> Replay
     ensures { λ r. ⌜ reading r ≡ first ⌝ }
@@ -49,15 +56,40 @@ pub fn start() -> Replay
     }
 }
 
+// The line under way ends: it is answered behind the first n bytes.
+fn end_line(r: Replay, out: &mut [u8], n: usize) -> Ended
+    requires { ⌜ n + answerRoom ≤ length (now out) ⌝ }
+    ensures { λ e. ⌜ Ends (reading r) (now (out .entry)) n (now (out .exit)) e ⌝ }
+{
+    let line = line_in(r.held);
+    let p = place_of(line);
+    let t = turn(r.store, r.txs[p], r.plan, line);
+    let lines = std::num::wrapping_add_u64(r.lines, 1);
+    let third = t.third;
+    let count = put_answer(out, n, lines, t.number, third);
+    let store = t.store;
+    let mut txs = r.txs;
+    let x = t.tx;
+    txs[p] = x;
+    let plan = t.plan;
+    let held = Held::none();
+    Ended {
+        replay: Replay {
+            store,
+            txs,
+            plan,
+            held,
+            lines,
+        },
+        count,
+    }
+}
+
 // Takes bytes of the part until it is used up or `out` has no room for one more answer.
 pub fn feed(r: Replay, part: &[u8], out: &mut [u8]) -> Fed
-    ensures { λ f. ⌜ Feeds (reading r) (now (part .entry)) (now (out .exit)) f ⌝ }
+    ensures { λ f. ⌜ Feeds (reading r) (now (part .entry)) (now (out .entry)) (now (out .exit)) f ⌝ }
 {
-    let mut store = r.store;
-    let mut txs = r.txs;
-    let mut plan = r.plan;
-    let mut held = r.held;
-    let mut lines = r.lines;
+    let mut replay = r;
     let mut n: usize = 0;
     let mut i: usize = 0;
     while i < part.len() {
@@ -67,41 +99,31 @@ pub fn feed(r: Replay, part: &[u8], out: &mut [u8]) -> Fed
         let b = part[i];
         i += 1;
         if b == b'\n' {
-            let line = line_in(held);
-            let p = place_of(line);
-            let t = turn(store, txs[p], plan, line);
-            store = t.store;
-            let x = t.tx;
-            txs[p] = x;
-            plan = t.plan;
-            lines = std::num::wrapping_add_u64(lines, 1);
-            let third = t.third;
-            n = put_answer(out, n, lines, t.number, third);
-            held = Held::none();
+            let e = end_line(replay, out, n);
+            replay = e.replay;
+            n = e.count;
         } else {
-            held = with_byte(held, b);
+            let held = with_byte(replay.held, b);
+            replay.held = held;
         }
     }
     Fed {
-        replay: Replay {
-            store,
-            txs,
-            plan,
-            held,
-            lines,
-        },
+        replay,
         taken: i,
         count: n,
     }
 }
 
-// The answer to a last line without a line feed, if it has a byte.
+// The answer to a last line without a line feed, if it has a byte; none where `out` has no room for an answer.
 pub fn finish(r: Replay, out: &mut [u8]) -> usize
-    ensures { λ n. ⌜ Counted n (now (out .exit)) × (answerRoom ≤ length (now (out .exit)) → take n (now (out .exit)) ≡ ended (reading r)) ⌝ }
+    ensures { λ n. ⌜ Finishes (reading r) (now (out .entry)) (now (out .exit)) n ⌝ }
 {
     if r.held.count == 0 {
         return 0;
     }
-    let f = feed(r, b"\n", out);
-    f.count
+    if out.len() < Text::ROOM {
+        return 0;
+    }
+    let e = end_line(r, out, 0);
+    e.count
 }

@@ -18,7 +18,7 @@ impl Held {
     pub const ROOM: usize = 27;
 
     // No byte yet.
-    pub fn none() -> Held
+    pub(crate) fn none() -> Held
         ensures { λ r. ⌜ heldIn r ≡ [] ⌝ }
     {
         Held {
@@ -29,7 +29,7 @@ impl Held {
 }
 
 // One byte more, if there is room.
-pub fn with_byte(h: Held, b: u8) -> Held
+pub(crate) fn with_byte(h: Held, b: u8) -> Held
     ensures { λ r. ⌜ heldIn r ≡ take heldRoom (heldIn h ++ b ∷ []) ⌝ }
 {
     let n = h.count;
@@ -45,7 +45,7 @@ pub fn with_byte(h: Held, b: u8) -> Held
 }
 
 // The line that it is read as.
-pub fn line_in(h: Held) -> Line
+pub(crate) fn line_in(h: Held) -> Line
     ensures { λ r. ⌜ meaning r ≡ lineOf (split 9 (heldIn h)) ⌝ }
 {
     let bytes = h.bytes;

@@ -1,7 +1,5 @@
-// The replay of document 01: one line on the store, and a script fed in parts of any size.
+// The replay of document 01: a script fed in parts of any size.
 
 mod answer;
-mod fault;
 pub mod feed;
-pub mod held;
-pub mod turn;
+mod held;

@@ -3,12 +3,10 @@ use mathlib.Core.Path.{_≡_}
 use mathlib.Core.List.{List}
 use Prim.Native.Nat.{ℕ, _-_, _<_, _≤_}
 use native.Mathlib.Omega.{arith}
-use lib.Dec.{eqb}
 use lib.ListN.{length, take, drop, length-replicate, length-take, length-drop}
 use borrow.Author.Needs.{needs}
-use borrow.Author.Tests.{eqb-true, eqb-false}
-use Rattle.rules.specs.Bools.{by}
 use Rattle.desk.specs.Feed.{Reading, answerRoom, Feeds}
+use Rattle.desk.specs.FeedLaws.{takes-some}
 use Rattle.desk.specs.declared.feed.Fed.{Fed}
 use Rattle.stream.proofs.replay_part.Statement.{statement}
 use Rattle.stream.proofs.replay_part.Tie as tie
@@ -20,16 +18,13 @@ left part at = take (length part - at) (drop at part)
 left-long : (part : List ℕ) (at : ℕ) → length (left part at) ≡ length part - at
 left-long part at = simp (length-take, length-drop) (omega arith)
 
-module _ (part : List ℕ) (at : ℕ) {s : Reading} {out : List ℕ} {f : Fed} (F : Feeds s (left part at) out f) where
+module _ (part : List ℕ) (at : ℕ) {s : Reading} {out after : List ℕ} {f : Fed} (F : Feeds s (left part at) out after f) where
   within : f .taken ≤ length part - at
   within = omega (arith, left-long part at, F .within)
 
   -- with room for an answer a byte is taken
-  some : at < length part → answerRoom ≤ length out → 0 < f .taken
-  some h room =
-      by (eqb (f .taken) 0)
-      (λ t. omega (arith, F .all (omega (arith, eqb-true (f .taken) 0 t, F .few)), left-long part at))
-      (λ t. omega (arith, eqb-false (f .taken) 0 t))
+  some : at < length part → answerRoom ≤ length after → 0 < f .taken
+  some h room = takes-some F (omega (arith, left-long part at)) room
 
 abbrev Inv-loop : tie.InvT-loop
 Inv-loop part out₀ next₀ at₀ out next at = (at ≤ length part) × (length out ≡ 16384)

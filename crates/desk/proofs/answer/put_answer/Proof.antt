@@ -15,7 +15,7 @@ same-length c = search needs
 returns : tie.Need-returns
 returns c =
     let p = c .before .before .put-text .ensures in
-    record { long = p .long; few = p .few; are = rw (← (c .before .before .before .before .print-line .ensures .text)) (p .are) }
+    rw (c .before .before .before .before .print-line .ensures .text) at p
 
 pub put-answer-spec : {M : Type 1} → statement M
 put-answer-spec = tie.close (tie.spec print-line-requires put-text-requires same-length returns)

@@ -6,20 +6,21 @@ use native.Mathlib.Omega.{arith}
 use lib.ListN.{length, take, drop, length-set}
 use borrow.Author.Needs.{needs}
 use Rattle.desk.specs.Feed.{answerRoom}
-use Rattle.desk.specs.Put.{put-more, put-all}
+use Rattle.desk.specs.Put.{alike-more, put-more, put-all}
 use Rattle.desk.proofs.Long.{text-long}
 use Rattle.desk.proofs.answer.put_text.Statement.{statement}
 use Rattle.desk.proofs.answer.put_text.Tie as tie
 
 abbrev Inv-loop : tie.InvT-loop
 Inv-loop out₀ n text at₀ i₀ out at i =
-    (i ≤ answerRoom) × (at + text .start ≡ n + i) × (length out ≡ length out₀) × (take at out ++ drop i (text .bytes) ≡ take n out₀ ++ drop (text .start) (text .bytes))
+    (text .start ≤ i) × (i ≤ answerRoom) × (at + text .start ≡ n + i) × (length out ≡ length out₀) × (take at out ++ drop i (text .bytes) ≡ take n out₀ ++ drop (text .start) (text .bytes))
+    × (drop at out ≡ drop at out₀)
 
 abbrev μ-loop : tie.MeasureT-loop
 μ-loop out₀ n text at₀ i₀ out at i = answerRoom - i
 
 loop-holds : tie.Need-loop-holds Inv-loop μ-loop
-loop-holds c = (omega arith, omega arith, refl, refl)
+loop-holds c = (omega arith, omega arith, omega arith, refl, refl, refl)
 
 element-copy-out-out : tie.Need-element-copy-out-out Inv-loop μ-loop
 element-copy-out-out c = search needs
@@ -41,7 +42,7 @@ loop-again c =
     let l = c .before .before in
     let t = l .before .args .t3 in
     let long = text-long t (l .before .good .1 .1 .0) in
-    (omega arith, omega arith, simp length-set (l .loop .inv .2), put-more (l .loop .out) (t .bytes) _ (l .loop .at) (l .loop .i) (l .loop .inv .3) (omega arith) (omega arith))
+    (omega arith, omega arith, omega arith, simp length-set (l .loop .inv .3), put-more (l .loop .out) (t .bytes) _ (l .loop .at) (l .loop .i) (l .loop .inv .4) (omega arith) (omega arith), alike-more (l .loop .out) _ (l .loop .at) _ (l .loop .inv .5))
 
 same-length : tie.Need-same-length Inv-loop μ-loop
 same-length c = search needs
@@ -52,9 +53,11 @@ returns c =
     let t = l .before .args .t3 in
     let long = text-long t (l .before .good .1 .1 .0) in
     record {
-      long = l .loop .inv .2;
+      long = l .loop .inv .3;
+      more = omega arith;
       few = omega arith;
-      are = put-all (l .loop .out) (t .bytes) _ (l .loop .at) (l .loop .i) (l .loop .inv .3) (omega arith);
+      are = put-all (l .loop .out) (t .bytes) _ (l .loop .at) (l .loop .i) (l .loop .inv .4) (omega arith);
+      rest = l .loop .inv .5;
     }
 
 pub put-text-spec : {M : Type 1} → statement M

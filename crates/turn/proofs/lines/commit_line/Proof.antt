@@ -1,0 +1,20 @@
+-- `commit_line` meets its contract.
+use Rattle.turn.specs.Lines.{committed}
+use borrow.Author.Needs.{needs}
+use Rattle.turn.proofs.lines.commit_line.Statement.{statement}
+use Rattle.turn.proofs.lines.commit_line.Tie as tie
+
+commit-requires : tie.Need-commit-requires
+commit-requires c κs = search needs
+
+number-of-requires : tie.Need-number-of-requires
+number-of-requires c κs = search needs
+
+none-requires : tie.Need-none-requires
+none-requires c κs = search needs
+
+returns : tie.Need-returns
+returns c = let a = c .before .before .before .before .before .args in committed (a .s) (a .x) (a .plan) (a .logged) (a .cut) (c .before .before .before .before .commit .ensures) (c .before .before .before .number-of .ensures) (c .none .ensures)
+
+pub commit-line-spec : {M : Type 1} → statement M
+commit-line-spec = tie.close (tie.spec commit-requires number-of-requires none-requires returns)
