@@ -23,7 +23,7 @@ use Rattle.journal.specs.Holds.{kept-wide}
 use Rattle.admit.specs.Row.{marks-array}
 use Rattle.view.specs.Few.{those-few}
 use Rattle.view.specs.Lent.{atRows, atPlaces, array-cons, array-end}
-use Rattle.look.specs.Slots.{ownSlot, own-slots}
+use Rattle.sight.specs.Slots.{ownSlot, own-slots}
 use Rattle.journal.specs.Pushing.{Pushing, pushing-next}
 use Rattle.calls.specs.Whole.{heads-whole, next-whole, xmin-whole}
 use Rattle.laws.specs.Sized.{Sized}

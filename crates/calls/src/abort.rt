@@ -11,7 +11,7 @@ use admit::walk::walk_all;
 use journal::Journal;
 use journal::Kind;
 use look::changed::only_txid;
-use look::slots::is_own;
+use sight::slots::is_own;
 use types::Reply;
 use types::RowId;
 use types::SlotPtr;
