@@ -23,7 +23,7 @@ use Rattle.journal.specs.Holds.{kept-wide}
 use Rattle.view.specs.Walked.{marks-array}
 use Rattle.view.specs.Few.{those-few}
 use Rattle.view.specs.Lent.{atRows, atPlaces, array-cons, array-end}
-use Rattle.look.specs.Slots.{ownSlot, own-slots}
+use Rattle.sight.specs.Slots.{ownSlot, own-slots}
 use Rattle.journal.specs.Pushing.{Pushing, pushing-next}
 use Rattle.admit.specs.Admission.{admitted, admitted-call}
 use Rattle.calls.specs.Whole.{heads-whole, next-whole, xmin-whole}

@@ -8,7 +8,7 @@ use lib.Dec.{ltb}
 use Rattle.types.specs.Limits.{rows, readLimit}
 use Rattle.rules.specs.Bools.{clash}
 use Rattle.rules.specs.Lists.{pad}
-use Rattle.rules.specs.Types.{Store, Tx, Found, ReadRecord, IndexRead, Refusal, ReadsFull, Open}
+use Rattle.rules.specs.Types.{Store, Tx, Found, ReadRecord, Refusal, ReadsFull, Open}
 use Rattle.rules.specs.Store.{stripeOf}
 use Rattle.rules.specs.Transaction.{readsOf, indexReadsOf, withReads, withIndexReads}
 use Rattle.rules.specs.Fit.{fit}
@@ -19,10 +19,10 @@ use Rattle.view.specs.Lent.{atRows, atPlaces, flagsAtPlaces, flagsAtRows, atPos
 use Rattle.view.specs.Marks.{mark-length}
 use Rattle.look.specs.Marks.{markedRows, noRows}
 use Rattle.look.specs.Candidates.{candidateMarks, candidateRows, candidates-marked, fit-rows}
-use Rattle.look.specs.Reads.{laid}
+use Rattle.look.specs.Reads.{laid, readsFrom, reads-from}
 use Rattle.look.specs.Lookup.{recordReadsOf, record-reads, matchingOf, matching-of}
 use Rattle.look.specs.Rows.{rowList}
-use Rattle.look.specs.Stamps.{indexReadList, indexConflict}
+use Rattle.look.specs.Stamps.{indexReadList, indexConflict, indexReadsFrom, index-reads-from}
 use Rattle.look.specs.declared.reads.ReadList.{ReadList}
 use Rattle.look.specs.declared.stamps.IndexReadList.{IndexReadList}
 use Rattle.look.specs.declared.lookup.RowList.{RowList}
@@ -57,12 +57,12 @@ pub looked-is : {t : ℕ} {b : Bool} {q : IndexReadList} {l : ReadList} {w y : T
     → t ≡ getD stamps (stripeOf k) 0
     → q ≡ indexReadList (recordStamp (stripeOf k) t (indexReadsOf x))
     → b ≡ indexConflict x t
-    → ((m : List ReadRecord) → l ≡ laid m → l .over ≡ false → w ≡ withReads m x)
-    → ((m : List IndexRead) → q ≡ indexReadList m → y ≡ withIndexReads m b w)
+    → w ≡ readsFrom l x
+    → y ≡ indexReadsFrom q b w
     → (m : List ReadRecord) → l ≡ laid m → l .over ≡ false → y ≡ looked stamps x m k
 unfolding looked
 looked-is {t} {b} {q} {l} {w} {y} stamps x k e f g r i m h over =
-    i (recordStamp (stripeOf k) t (indexReadsOf x)) f ∙ rw (g, r m h over, e)
+    i ∙ index-reads-from q (recordStamp (stripeOf k) t (indexReadsOf x)) b w f ∙ rw (g, r ∙ reads-from l m x h over, e)
 
 -- the marked rows of a fit transaction are the candidates
 marks-long : (postings : List ℕ) (count : ℕ) (x : Tx) (k : ℕ) → length (candidateMarks postings count x k) ≡ rows

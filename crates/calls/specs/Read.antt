@@ -14,8 +14,8 @@ use Rattle.rules.specs.Numbers.{Try, refuse, tries, isDone}
 use Rattle.rules.specs.Calls.{admitsHealthy, recordRead, readPtr, read}
 use Rattle.laws.specs.Sized.{Sized}
 use Rattle.view.specs.Lent.{atRows, atPlaces, flagsAtPlaces}
-use Rattle.look.specs.Found.{readPtrOf, read-ptr}
-use Rattle.look.specs.Reads.{laid, recordReadOf, record-read}
+use Rattle.sight.specs.Found.{readPtrOf, read-ptr}
+use Rattle.look.specs.Reads.{laid, recordReadOf, record-read, readsFrom, reads-from}
 use Rattle.look.specs.declared.reads.ReadList.{ReadList}
 use Rattle.admit.specs.Admission.{admitted}
 use Rattle.calls.specs.Refused.{unless, poisonedTries, found-healthy, both-done, choose, choose-done, choose-refused}
@@ -76,12 +76,12 @@ module _ (S : Store) (x : Tx) (r : ℕ) where
     pub read-done : {p : ℕ} {v : Value} {y : Tx} → isDone why ≡ true
         → p ≡ readPtrOf (atRows (S .heads)) (atPlaces (S .next)) (atPlaces (S .xmin)) x r
         → v ≡ valueAt (atPlaces (S .key)) (flagsAtPlaces (S .has)) p
-        → ((m : List ReadRecord) → l ≡ laid m → l .over ≡ false → y ≡ withReads m x)
+        → y ≡ readsFrom l x
         → record { refusal = why; value = v; tx = y } ≡ read S x r
     read-done {p} {v} {y} d q u w =
         let ptr-is : p ≡ readPtr S x r = (rw (heads-whole S z, next-whole S z, xmin-whole S z) at q) ∙ sym (read-ptr S x r) in
         let value-is : v ≡ valueAt (S .key) (S .has) (readPtr S x r) = (rw (key-whole S z, has-whole S z) at u) ∙ ap (valueAt (S .key) (S .has)) ptr-is in
-        let tx-is : y ≡ withReads reads-after x = w reads-after list-is (reads-fit r (l .over) (both-done why first (readTries r (l .over)) f d .1)) in
+        let tx-is : y ≡ withReads reads-after x = w ∙ reads-from l reads-after x list-is (reads-fit r (l .over) (both-done why first (readTries r (l .over)) f d .1)) in
         (λ i. record { refusal = why; value = value-is i; tx = tx-is i })
         ∙ choose-done done refused why _ why-is d
         ∙ answer

@@ -17,7 +17,7 @@ use Rattle.rules.specs.Calls.{admitsHealthy, lowestFree, baseOf, write}
 use Rattle.laws.specs.Sized.{Sized}
 use Rattle.journal.specs.Journal.{putLimit}
 use Rattle.view.specs.Lent.{atRows, atPlaces}
-use Rattle.look.specs.Found.{baseOfRow, base-of}
+use Rattle.sight.specs.Found.{baseOfRow, base-of}
 use Rattle.admit.specs.Admission.{admitted}
 use Rattle.calls.specs.Refused.{unless, poisonedTries, found-healthy, choose, choose-done, choose-refused}
 use Rattle.calls.specs.Whole.{heads-whole, next-whole, xmin-whole}

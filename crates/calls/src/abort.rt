@@ -10,7 +10,7 @@ use admit::admission::is_done;
 use journal::Journal;
 use journal::Kind;
 use look::changed::only_txid;
-use look::slots::is_own;
+use sight::slots::is_own;
 use types::Reply;
 use types::RowId;
 use types::SlotPtr;
