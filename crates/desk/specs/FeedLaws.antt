@@ -14,11 +14,10 @@ use Rattle.rules.specs.Replay.{Line, Desk, says, txAt, turn}
 use Rattle.rules.specs.Script.{Bytes, split, lineOf, write}
 use Rattle.script.specs.Print.{thirdOf}
 use Rattle.turn.specs.declared.Turned.{Turned}
-use Rattle.desk.specs.declared.feed.Ended.{Ended}
 use Rattle.desk.specs.declared.feed.Fed.{Fed}
 use Rattle.turn.specs.Turn.{placeIn, atFirst, single, turned, joined, turn-alone}
 use Rattle.desk.specs.Put.{Puts, alike-on}
-use Rattle.desk.specs.Feed.{Reading, nextLine, lineEnd, withByte, fedByte, fed, ended, endedIn, answerRoom, reading, Counted, Feeds, Finishes}
+use Rattle.desk.specs.Feed.{Reading, heldRoom, nextLine, lineEnd, withByte, fedByte, fed, ended, endedIn, answerRoom, reading, Counted, Feeds, Finishes}
 
 -- two parts are one
 pub fed-append : (a b : Bytes) (s : Reading)
@@ -35,12 +34,7 @@ within [] i y z h = absurd (omega arith)
 within (x ∷ l) zero y z h = refl
 within (x ∷ l) (suc i) y z h = within l i y z (omega arith)
 
--- the line under way ends, and its answer stands behind the first n bytes
-pub record Ends (s : Reading) (out : Bytes) (n : ℕ) (after : Bytes) (e : Ended) : Type 0 where
-  pub state : reading (e .replay) ≡ lineEnd s .state
-  pub puts : Puts out n (lineEnd s .answers) after (e .count)
-
--- it is turned at its place
+-- the line under way, turned at its place
 module _ (d : Desk) (w : Bytes) (n : ℕ) {l : Line} {p m : ℕ} {x : Tx} (t : Turned) (e : l ≡ lineOf (split 9 w)) (at : p ≡ placeIn l) (its : x ≡ txAt d p)
     (f : turned t ≡ turn (atFirst l) (single (d .store) x (d .plan))) (next : m ≡ nextLine n) where
   the-turn : joined d p (turned t) ≡ turn (lineOf (split 9 w)) d
@@ -50,15 +44,15 @@ module _ (d : Desk) (w : Bytes) (n : ℕ) {l : Line} {p m : ℕ} {x : Tx} (t : T
       ∙ sym (turn-alone l d)
       ∙ ap (λ q. turn q d) e
 
-  pub ends : (z : Ended) {out after none : Bytes} {k : ℕ} → none ≡ []
-      → reading (z .replay) ≡ record { desk = record { store = t .store; txs = set (d .txs) p (t .tx); plan = t .plan }; held = none; lines = m }
-      → Puts out k (write m (says (t .number) (thirdOf (t .third)) ∷ [])) after (z .count) → Ends (record { desk = d; held = w; lines = n }) out k after z
+  end-state : {none : Bytes} → none ≡ []
+      → record { desk = record { store = t .store; txs = set (d .txs) p (t .tx); plan = t .plan }; held = none; lines = m } ≡ lineEnd (record { desk = d; held = w; lines = n }) .state
   unfolding lineEnd
-  ends z {out} {after} {none} {k} clear same put =
-      record {
-        state = same ∙ (λ i. record { desk = the-turn i .desk; held = clear i; lines = next i });
-        puts = subst (λ (text : Bytes). Puts out k text after (z .count)) (λ i. write (next i) (the-turn i .out ∷ [])) put;
-      }
+  end-state z = λ i. record { desk = the-turn i .desk; held = z i; lines = next i }
+
+  pub end-puts : {out after : Bytes} {k r : ℕ} → Puts out k (write m (says (t .number) (thirdOf (t .third)) ∷ [])) after r
+      → Puts out k (lineEnd (record { desk = d; held = w; lines = n }) .answers) after r
+  unfolding lineEnd
+  end-puts {out} {after} {k} {r} put = subst (λ (text : Bytes). Puts out k text after r) (λ i. write (next i) (the-turn i .out ∷ [])) put
 
 -- the first i bytes of a part are fed, each with room for an answer, and the first n bytes of out are their answers
 pub record Goes (s : Reading) (part out after : Bytes) (i n : ℕ) (now : Reading) : Type 0 where
@@ -86,19 +80,19 @@ module _ (s : Reading) (part : Bytes) (i : ℕ) (h : i < length part) where
         (λ t. g .room j (omega (arith, eqb-false j i t)))
 
     -- a line ends
-    pub goes-line : (e : Ended) {last : Bytes} → getD part i 0 ≡ 10 → Ends now after n last e → Goes s part out last (i + 1) (e .count) (reading (e .replay))
+    goes-line : {last : Bytes} {r : ℕ} {new : Reading} → getD part i 0 ≡ 10 → new ≡ lineEnd now .state → Puts after n (lineEnd now .answers) last r → Goes s part out last (i + 1) r new
     unfolding fedByte
-    goes-line e b E =
+    goes-line b st put =
         let q = one-more in
         record {
-          state = rw (q, eq-eqb _ _ b, ← (g .state)) (E .state);
-          answers = rw (q, eq-eqb _ _ b, ← (g .state), ← (g .answers)) (E .puts .are);
-          rest = E .puts .rest ∙ alike-on after out (E .puts .more) (g .rest);
+          state = rw (q, eq-eqb _ _ b, ← (g .state)) st;
+          answers = rw (q, eq-eqb _ _ b, ← (g .state), ← (g .answers)) (put .are);
+          rest = put .rest ∙ alike-on after out (put .more) (g .rest);
           room = more-room;
         }
 
     -- any other byte goes onto it
-    pub goes-byte : {new : Reading} → (getD part i 0 ≡ 10 → ⊥) → new ≡ withByte (getD part i 0) now → Goes s part out after (i + 1) n new
+    goes-byte : {new : Reading} → (getD part i 0 ≡ 10 → ⊥) → new ≡ withByte (getD part i 0) now → Goes s part out after (i + 1) n new
     unfolding fedByte
     goes-byte e st =
         let q = one-more in
@@ -108,6 +102,20 @@ module _ (s : Reading) (part : Bytes) (i : ℕ) (h : i < length part) where
           rest = g .rest;
           room = more-room;
         }
+
+-- the loop of the code: a line feed, and any other byte
+module _ (s : Reading) (part : Bytes) (i : ℕ) (h : i < length part) (d : Desk) (w : Bytes) (k : ℕ) {out after : Bytes} {n : ℕ}
+    (g : Goes s part out after i n (record { desk = d; held = w; lines = k })) (long : length after ≡ length out) (room : n + answerRoom ≤ length after) where
+  pub on-feed : {l : Line} {p m r : ℕ} (t : Turned) {none last : Bytes} → getD part i 0 ≡ 10
+      → l ≡ lineOf (split 9 w) → p ≡ placeIn l → {x : Tx} → x ≡ txAt d p → turned t ≡ turn (atFirst l) (single (d .store) x (d .plan)) → m ≡ nextLine k
+      → Puts after n (write m (says (t .number) (thirdOf (t .third)) ∷ [])) last r → none ≡ []
+      → Goes s part out last (i + 1) r (record { desk = record { store = t .store; txs = set (d .txs) p (t .tx); plan = t .plan }; held = none; lines = m })
+  on-feed t b e q a f next put z = goes-line s part i h out g long room b (end-state d w k t e q a f next z) (end-puts d w k t e q a f next put)
+
+  pub on-byte : {more : Bytes} → (getD part i 0 ≡ 10 → ⊥) → more ≡ take heldRoom (w ++ getD part i 0 ∷ [])
+      → Goes s part out after (i + 1) n (record { desk = d; held = more; lines = k })
+  unfolding withByte
+  on-byte other e = goes-byte s part i h out g long room other (λ j. record { desk = d; held = e j; lines = k })
 
 pub counted : {n : ℕ} {out : Bytes} → n ≤ length out → Counted n out
 counted {n} {out} h = record { there = h; many = sym (length-take-le n out h) }
@@ -145,11 +153,11 @@ module _ (s : Reading) (out : Bytes) where
   unfolding endedIn
   finish-short h = record { fits = counted (omega arith); answers = rw (lt-leb _ _ h); rest = refl }
 
-  pub finish-line : (after : Bytes) (e : Ended) → (length (s .held) ≡ 0 → ⊥) → answerRoom ≤ length out → Ends s out 0 after e → Finishes s out after (e .count)
+  pub finish-line : (after : Bytes) (n : ℕ) → (length (s .held) ≡ 0 → ⊥) → answerRoom ≤ length out → Puts out 0 (lineEnd s .answers) after n → Finishes s out after n
   unfolding endedIn
-  finish-line after e some room E =
+  finish-line after n some room put =
       record {
-        fits = counted (omega (arith, E .puts .long, E .puts .few));
-        answers = rw (E .puts .long, le-leb _ _ room) (E .puts .are ∙ ended-some s some);
-        rest = E .puts .rest;
+        fits = counted (omega (arith, put .long, put .few));
+        answers = rw (put .long, le-leb _ _ room) (put .are ∙ ended-some s some);
+        rest = put .rest;
       }

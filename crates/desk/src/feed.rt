@@ -1,10 +1,7 @@
 // A script fed in parts of any size: each line is answered where it ends. The loop owns the store and the transactions.
 
 ghost use mathlib.Core.Path.{_≡_};
-ghost use Prim.Native.Nat.{_+_, _≤_};
-ghost use lib.ListN.{length};
-ghost use Rattle.desk.specs.Feed.{answerRoom, first, reading, Feeds, Finishes};
-ghost use Rattle.desk.specs.FeedLaws.{Ends};
+ghost use Rattle.desk.specs.Feed.{first, reading, Feeds, Finishes};
 use super::answer::put_answer;
 use super::held::Held;
 use super::held::line_in;
@@ -33,12 +30,6 @@ pub struct Fed {
     pub count: usize,
 }
 
-// What the end of a line leaves, and how many bytes the answers have with its own.
-struct Ended {
-    replay: Replay,
-    count: usize,
-}
-
 // "It starts from the empty store and zero transactions".
 pub fn start() -> Replay
     ensures { λ r. ⌜ reading r ≡ first ⌝ }
@@ -56,40 +47,15 @@ pub fn start() -> Replay
     }
 }
 
-// The line under way ends: it is answered behind the first n bytes.
-fn end_line(r: Replay, out: &mut [u8], n: usize) -> Ended
-    requires { ⌜ n + answerRoom ≤ length (now out) ⌝ }
-    ensures { λ e. ⌜ Ends (reading r) (now (out .entry)) n (now (out .exit)) e ⌝ }
-{
-    let line = line_in(r.held);
-    let p = place_of(line);
-    let t = turn(r.store, r.txs[p], r.plan, line);
-    let lines = std::num::wrapping_add_u64(r.lines, 1);
-    let third = t.third;
-    let count = put_answer(out, n, lines, t.number, third);
-    let store = t.store;
-    let mut txs = r.txs;
-    let x = t.tx;
-    txs[p] = x;
-    let plan = t.plan;
-    let held = Held::none();
-    Ended {
-        replay: Replay {
-            store,
-            txs,
-            plan,
-            held,
-            lines,
-        },
-        count,
-    }
-}
-
 // Takes bytes of the part until it is used up or `out` has no room for one more answer.
 pub fn feed(r: Replay, part: &[u8], out: &mut [u8]) -> Fed
     ensures { λ f. ⌜ Feeds (reading r) (now (part .entry)) (now (out .entry)) (now (out .exit)) f ⌝ }
 {
-    let mut replay = r;
+    let mut store = r.store;
+    let mut txs = r.txs;
+    let mut plan = r.plan;
+    let mut held = r.held;
+    let mut lines = r.lines;
     let mut n: usize = 0;
     let mut i: usize = 0;
     while i < part.len() {
@@ -99,16 +65,29 @@ pub fn feed(r: Replay, part: &[u8], out: &mut [u8]) -> Fed
         let b = part[i];
         i += 1;
         if b == b'\n' {
-            let e = end_line(replay, out, n);
-            replay = e.replay;
-            n = e.count;
+            let line = line_in(held);
+            let p = place_of(line);
+            let t = turn(store, txs[p], plan, line);
+            store = t.store;
+            let x = t.tx;
+            txs[p] = x;
+            plan = t.plan;
+            lines = std::num::wrapping_add_u64(lines, 1);
+            let third = t.third;
+            n = put_answer(out, n, lines, t.number, third);
+            held = Held::none();
         } else {
-            let held = with_byte(replay.held, b);
-            replay.held = held;
+            held = with_byte(held, b);
         }
     }
     Fed {
-        replay,
+        replay: Replay {
+            store,
+            txs,
+            plan,
+            held,
+            lines,
+        },
         taken: i,
         count: n,
     }
@@ -124,6 +103,10 @@ pub fn finish(r: Replay, out: &mut [u8]) -> usize
     if out.len() < Text::ROOM {
         return 0;
     }
-    let e = end_line(r, out, 0);
-    e.count
+    let line = line_in(r.held);
+    let p = place_of(line);
+    let t = turn(r.store, r.txs[p], r.plan, line);
+    let lines = std::num::wrapping_add_u64(r.lines, 1);
+    let third = t.third;
+    put_answer(out, 0, lines, t.number, third)
 }

@@ -1,12 +1,11 @@
-// The fate that a refusal carries.
+// The fate that a refusal of commit carries.
 
 use types::Fate;
 use types::Refusal;
 
-// Open for `Done`, which carries none.
+// Open for `Done`, which carries none, and for what commit never answers.
 pub fn fate_in(why: Refusal) -> Fate {
     match why {
-        Refusal::Done => Fate::Open,
         Refusal::NotResting(f) => f,
         Refusal::Unfit(f) => f,
         Refusal::NotActive(f) => f,
@@ -26,14 +25,6 @@ pub fn fate_in(why: Refusal) -> Fate {
         Refusal::StampFailed(f) => f,
         Refusal::CutOff(f) => f,
         Refusal::CleanupFailed(f) => f,
-        Refusal::NotRepairable(f) => f,
-        Refusal::ActiveFull(f) => f,
-        Refusal::ClockAtEnd(f) => f,
-        Refusal::RowTooHigh(f) => f,
-        Refusal::ReadsFull(f) => f,
-        Refusal::WritesFull(f) => f,
-        Refusal::SlotsFull(f) => f,
-        Refusal::LockedByAnother(f) => f,
-        Refusal::NoHead(f) => f,
+        _ => Fate::Open,
     }
 }

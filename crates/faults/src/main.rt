@@ -24,7 +24,9 @@ fn try_mode(b: Bench, logged: bool) {
 
 fn main() {
     let b = bench::prepared();
-    print::legend(b);
+    let old = b.old;
+    let new = b.new;
+    print::legend(b.refused, old, new);
     try_mode(b, false);
     try_mode(b, true);
 }

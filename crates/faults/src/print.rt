@@ -1,6 +1,5 @@
 // The lines written.
 
-use super::bench::Bench;
 use super::fate::fate_in;
 use super::shown;
 use super::trial::Trial;
@@ -9,8 +8,6 @@ use types::Answer;
 use types::Fate;
 use types::Fault;
 use types::RowId;
-use types::Store;
-use types::Tx;
 use types::Txid;
 use view::txids::is_active;
 
@@ -45,15 +42,13 @@ fn rows(keys: [u64; RowId::ROWS]) {
 }
 
 // The rows before and after, and the columns.
-pub fn legend(b: Bench) {
-    if b.refused {
+pub fn legend(refused: bool, old: [u64; RowId::ROWS], new: [u64; RowId::ROWS]) {
+    if refused {
         word(b"A CALL OF THE PREPARATION WAS REFUSED\n");
     }
     word(b"old:");
-    let old = b.old;
     rows(old);
     word(b"new:");
-    let new = b.new;
     rows(new);
     word(
         b"mode\tstep\tfault\tat21\tat23\tat24\tnumber\tfate\tstores\tstore\ttxid\twrites/reads/index reads\tshows\tcuts\n",
@@ -119,33 +114,33 @@ fn fate(n: u64, f: Fate) {
 }
 
 // How the answer leaves the store.
-fn store(s: Store) {
-    if !resting(s) {
+fn store(rests: bool, doomed: u64, poisoned: bool) {
+    if !rests {
         word(b"UNREST\t");
         return;
     }
-    if s.doomed != 0 {
+    if doomed != 0 {
         word(b"doomed\t");
         return;
     }
-    if s.poisoned {
+    if poisoned {
         word(b"poisoned\t");
     } else {
         word(b"sound\t");
     }
 }
 
-fn lists(x: Tx) {
-    number(x.write_count as u64);
+fn lists(writes: usize, reads: usize, index_reads: usize) {
+    number(writes as u64);
     word(b"/");
-    number(x.read_count as u64);
+    number(reads as u64);
     word(b"/");
-    number(x.index_read_count as u64);
+    number(index_reads as u64);
     tab();
 }
 
-fn activity(s: Store, t: Txid) {
-    if is_active(&s.active, t) {
+fn activity(active: bool) {
+    if active {
         word(b"active\t");
     } else {
         word(b"ended\t");
@@ -160,9 +155,9 @@ pub fn answer(a: Answer, n: u64, t: Txid) {
     tab();
     number(a.stores as u64);
     tab();
-    store(a.store);
-    activity(a.store, t);
-    lists(a.tx);
+    store(resting(a.store), a.store.doomed, a.store.poisoned);
+    activity(is_active(&a.store.active, t));
+    lists(a.tx.write_count, a.tx.read_count, a.tx.index_read_count);
 }
 
 pub fn sight(v: u8) {

@@ -34,8 +34,16 @@ fn try_rollbacks(b: Bench, logged: bool, first: Fault, finish: bool, abort: bool
     }
 }
 
-fn try_fault(b: Bench, logged: bool, f: Fault) {
-    if is_unfit(b, logged, f) {
+// A line for each schedule that the fault leads to; or only its name, where it is unfit.
+fn try_fault(b: Bench, logged: bool, f: Fault, naming: bool) {
+    let unfit = is_unfit(b, logged, f);
+    if naming {
+        if unfit {
+            print::named(f);
+        }
+        return;
+    }
+    if unfit {
         return;
     }
     try_rollbacks(b, logged, f, false, false);
@@ -47,47 +55,27 @@ fn try_fault(b: Bench, logged: bool, f: Fault) {
     }
 }
 
-fn try_letter(b: Bench, logged: bool, step: u32, letter: u8) {
+fn try_letter(b: Bench, logged: bool, step: u32, letter: u8, naming: bool) {
     let tried = ks_tried(step, letter);
     let mut k: u32 = 0;
     while k < tried {
-        try_fault(b, logged, Fault { step, letter, k });
+        try_fault(b, logged, Fault { step, letter, k }, naming);
         k += 1;
     }
 }
 
-fn name_unfit(b: Bench, logged: bool, step: u32, letter: u8) {
-    let tried = ks_tried(step, letter);
-    let mut k: u32 = 0;
-    while k < tried {
-        let f = Fault { step, letter, k };
-        if is_unfit(b, logged, f) {
-            print::named(f);
-        }
-        k += 1;
-    }
-}
-
-fn try_letters(b: Bench, logged: bool, step: u32) {
+fn try_letters(b: Bench, logged: bool, step: u32, naming: bool) {
     let mut i: usize = 0;
     while i < COUNT {
-        try_letter(b, logged, step, LETTERS[i]);
-        i += 1;
-    }
-}
-
-fn name_letters(b: Bench, logged: bool, step: u32) {
-    let mut i: usize = 0;
-    while i < COUNT {
-        name_unfit(b, logged, step, LETTERS[i]);
+        try_letter(b, logged, step, LETTERS[i], naming);
         i += 1;
     }
 }
 
 // A line for each fit schedule, and one for all faults that are answered 2.
 pub fn try_step(b: Bench, logged: bool, step: u32) {
-    try_letters(b, logged, step);
+    try_letters(b, logged, step, false);
     print::unfit(logged, step);
-    name_letters(b, logged, step);
+    try_letters(b, logged, step, true);
     print::end();
 }

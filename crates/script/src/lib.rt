@@ -1,6 +1,6 @@
 // The lines of the replay script, taken apart, and the answer lines ("Replay" of document 01). Bytes come and go as slices and values.
 
-pub mod field;
+mod field;
 mod form;
 pub mod print;
 pub mod refusal;

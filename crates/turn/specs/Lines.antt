@@ -9,12 +9,8 @@ use Rattle.rules.specs.Numbers.{numberOf}
 use Rattle.rules.specs.Calls.{begin, read, write, lookup, rowLock, abort}
 use Rattle.rules.specs.Recovery.{recover}
 use Rattle.rules.specs.Answer.{commit}
-use Rattle.rules.specs.Replay.{lineB, lineR, lineW, lineL, lineK, lineA, lineC, lineF, lineV, lineBad, Third, num, Turn, valueThird, says, withFault, turn}
-use Rattle.turn.specs.Turn.{single}
-
--- what a line leaves and answers at the only place
-abbrev pub left : Store → Tx → Schedule → ℕ → Third → Turn
-left S x plan n t = record { desk = single S x plan; out = says n t }
+use Rattle.rules.specs.Replay.{lineB, lineR, lineW, lineL, lineK, lineA, lineC, lineF, lineV, lineBad, Third, num, valueThird, withFault, turn}
+use Rattle.turn.specs.Turn.{single, left}
 
 module _ (S : Store) (x : Tx) (plan : Schedule) {n : ℕ} where
   module _ {a : Reply} (e : a ≡ begin S) (m : n ≡ numberOf (a .refusal)) where
@@ -45,33 +41,33 @@ module _ (S : Store) (x : Tx) (plan : Schedule) {n : ℕ} where
         let w : t ≡ valueThird (read S x r .value) = v ∙ ap (λ q. valueThird (q .value)) e in
         rw (eq-eqb (numberOf (read S x r .refusal)) 0 (sym seen ∙ none)) (λ i. left S (e i .tx) plan (seen i) (w i))
 
-  pub wrote : (r : ℕ) (v : Value) {a : Written} → a ≡ write S x r v → n ≡ numberOf (a .refusal)
-      → left (a .store) (a .tx) plan n (num (a .slot .0)) ≡ turn (lineW 0 r v) (single S x plan)
+-- the calls whose number is answered as it is
+module _ (S : Store) (x : Tx) (plan : Schedule) where
+  pub wrote : (r : ℕ) (v : Value) {a : Written} → a ≡ write S x r v
+      → left (a .store) (a .tx) plan (numberOf (a .refusal)) (num (a .slot .0)) ≡ turn (lineW 0 r v) (single S x plan)
   unfolding turn
-  wrote r v e m =
-      let p = m ∙ ap (λ q. numberOf (q .refusal)) e in
-      λ i. left (e i .store) (e i .tx) plan (p i) (num (e i .slot .0))
+  wrote r v e = λ i. left (e i .store) (e i .tx) plan (numberOf (e i .refusal)) (num (e i .slot .0))
 
-  pub looked-up : (k : ℕ) {a : Found} → a ≡ lookup S x k → n ≡ numberOf (a .refusal) → left S (a .tx) plan n (num (a .count)) ≡ turn (lineL 0 k) (single S x plan)
+  pub looked-up : (k : ℕ) {a : Found} → a ≡ lookup S x k → left S (a .tx) plan (numberOf (a .refusal)) (num (a .count)) ≡ turn (lineL 0 k) (single S x plan)
   unfolding turn
-  looked-up k e m = let p = m ∙ ap (λ q. numberOf (q .refusal)) e in λ i. left S (e i .tx) plan (p i) (num (e i .count))
+  looked-up k e = λ i. left S (e i .tx) plan (numberOf (e i .refusal)) (num (e i .count))
 
-  pub locked : (r : ℕ) {a : Reply} → a ≡ rowLock S x r → n ≡ numberOf (a .refusal) → left (a .store) (a .tx) plan n (num 0) ≡ turn (lineK 0 r) (single S x plan)
+  pub locked : (r : ℕ) {a : Reply} → a ≡ rowLock S x r → left (a .store) (a .tx) plan (numberOf (a .refusal)) (num 0) ≡ turn (lineK 0 r) (single S x plan)
   unfolding turn
-  locked r e m = let p = m ∙ ap (λ q. numberOf (q .refusal)) e in λ i. left (e i .store) (e i .tx) plan (p i) (num 0)
+  locked r e = λ i. left (e i .store) (e i .tx) plan (numberOf (e i .refusal)) (num 0)
 
-  pub aborted : {a : Reply} → a ≡ abort S x → n ≡ numberOf (a .refusal) → left (a .store) (a .tx) plan n (num 0) ≡ turn (lineA 0) (single S x plan)
+  pub aborted : {a : Reply} → a ≡ abort S x → left (a .store) (a .tx) plan (numberOf (a .refusal)) (num 0) ≡ turn (lineA 0) (single S x plan)
   unfolding turn
-  aborted e m = let p = m ∙ ap (λ q. numberOf (q .refusal)) e in λ i. left (e i .store) (e i .tx) plan (p i) (num 0)
+  aborted e = λ i. left (e i .store) (e i .tx) plan (numberOf (e i .refusal)) (num 0)
 
-  pub committed : (logged : Bool) (cut : Cut) {a : Answer} {none : Schedule} → a ≡ commit S x logged plan cut → n ≡ numberOf (a .refusal) → none ≡ noFaults
-      → left (a .store) (a .tx) none n (num (a .stores)) ≡ turn (lineC 0 logged cut) (single S x plan)
+  pub committed : (logged : Bool) (cut : Cut) {a : Answer} {none : Schedule} → a ≡ commit S x logged plan cut → none ≡ noFaults
+      → left (a .store) (a .tx) none (numberOf (a .refusal)) (num (a .stores)) ≡ turn (lineC 0 logged cut) (single S x plan)
   unfolding turn
-  committed logged cut e m z = let p = m ∙ ap (λ q. numberOf (q .refusal)) e in λ i. left (e i .store) (e i .tx) (z i) (p i) (num (e i .stores))
+  committed logged cut e z = λ i. left (e i .store) (e i .tx) (z i) (numberOf (e i .refusal)) (num (e i .stores))
 
-  pub recovered : {a : Mended} → a ≡ recover S → n ≡ numberOf (a .refusal) → left (a .store) x plan n (num 0) ≡ turn lineV (single S x plan)
+  pub recovered : {a : Mended} → a ≡ recover S → left (a .store) x plan (numberOf (a .refusal)) (num 0) ≡ turn lineV (single S x plan)
   unfolding turn
-  recovered e m = let p = m ∙ ap (λ q. numberOf (q .refusal)) e in λ i. left (e i .store) x plan (p i) (num 0)
+  recovered e = λ i. left (e i .store) x plan (numberOf (e i .refusal)) (num 0)
 
 pub faulted : (S : Store) (x : Tx) (plan : Schedule) (f : Fault) {more : Schedule} → more ≡ withFault f plan
     → left S x more 0 (num 0) ≡ turn (lineF (f .step) (f .letter) (f .k)) (single S x plan)

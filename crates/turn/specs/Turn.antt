@@ -12,7 +12,7 @@ use Rattle.rules.specs.Bools.{by}
 use Rattle.rules.specs.Numbers.{numberOf, isDone}
 use Rattle.rules.specs.Calls.{begin}
 use Rattle.rules.specs.Recovery.{recover}
-use Rattle.rules.specs.Replay.{Line, lineB, lineR, lineW, lineL, lineK, lineA, lineC, lineF, lineV, lineBad, num, Desk, Turn, says, txAt, withFault, turn}
+use Rattle.rules.specs.Replay.{Line, lineB, lineR, lineW, lineL, lineK, lineA, lineC, lineF, lineV, lineBad, Third, num, Desk, Turn, says, txAt, withFault, turn}
 use Rattle.rules.specs.Script.{Bytes, split, lineOf}
 use Rattle.script.specs.Print.{thirdOf}
 use Rattle.script.specs.Text.{PlaceBelow}
@@ -49,9 +49,13 @@ atFirst lineBad = lineBad
 abbrev pub single : Store → Tx → Schedule → Desk
 single S x plan = record { store = S; txs = x ∷ []; plan = plan }
 
+-- what a line leaves and answers at the only place
+abbrev pub left : Store → Tx → Schedule → ℕ → Third → Turn
+left S x plan n t = record { desk = single S x plan; out = says n t }
+
 -- what the code's answer means
 abbrev pub turned : Turned → Turn
-turned r = record { desk = single (r .store) (r .tx) (r .plan); out = says (r .number) (thirdOf (r .third)) }
+turned r = left (r .store) (r .tx) (r .plan) (r .number) (thirdOf (r .third))
 
 -- a desk of which one place went through a turn
 abbrev pub joined : Desk → ℕ → Turn → Turn

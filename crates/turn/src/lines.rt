@@ -1,9 +1,10 @@
 // Each kind of line.
 
 ghost use mathlib.Core.Path.{_≡_};
-ghost use Rattle.rules.specs.Replay.{lineB, lineR, lineW, lineL, lineK, lineA, lineC, lineF, lineV, lineBad, valueThird, turn};
+ghost use Rattle.rules.specs.Numbers.{numberOf};
+ghost use Rattle.rules.specs.Replay.{lineB, lineR, lineW, lineL, lineK, lineA, lineC, lineF, lineV, lineBad, num, valueThird, turn};
 ghost use Rattle.script.specs.Print.{thirdOf};
-ghost use Rattle.turn.specs.Turn.{single, turned};
+ghost use Rattle.turn.specs.Turn.{single, left, turned};
 use super::Turned;
 use super::fault::with_fault;
 use calls::abort::abort;
@@ -18,6 +19,7 @@ use script::print::Third;
 use script::refusal::number_of;
 use types::Cut;
 use types::Fault;
+use types::Refusal;
 use types::RowId;
 use types::Schedule;
 use types::Store;
@@ -88,21 +90,26 @@ pub(crate) fn read_line(s: Store, x: Tx, plan: Schedule, row: RowId) -> Turned
     }
 }
 
-pub(crate) fn write_line(s: Store, x: Tx, plan: Schedule, row: RowId, v: Value) -> Turned
-    ensures { λ r. ⌜ turned r ≡ turn (lineW 0 (row .0) v) (single s x plan) ⌝ }
+// A line that is answered with its call's number.
+fn answered(store: Store, tx: Tx, plan: Schedule, why: Refusal, third: u64) -> Turned
+    ensures { λ r. ⌜ turned r ≡ left store tx plan (numberOf why) (num third) ⌝ }
 {
-    let a = write(s, x, row, v);
-    let why = a.refusal;
     let number = number_of(why);
-    let store = a.store;
-    let tx = a.tx;
     Turned {
         store,
         tx,
         plan,
         number,
-        third: Third::Num(a.slot.0 as u64),
+        third: Third::Num(third),
     }
+}
+
+pub(crate) fn write_line(s: Store, x: Tx, plan: Schedule, row: RowId, v: Value) -> Turned
+    ensures { λ r. ⌜ turned r ≡ turn (lineW 0 (row .0) v) (single s x plan) ⌝ }
+{
+    let a = write(s, x, row, v);
+    let why = a.refusal;
+    answered(a.store, a.tx, plan, why, a.slot.0 as u64)
 }
 
 pub(crate) fn lookup_line(s: Store, x: Tx, plan: Schedule, k: u32) -> Turned
@@ -110,15 +117,7 @@ pub(crate) fn lookup_line(s: Store, x: Tx, plan: Schedule, k: u32) -> Turned
 {
     let a = lookup(s, x, k);
     let why = a.refusal;
-    let number = number_of(why);
-    let tx = a.tx;
-    Turned {
-        store: s,
-        tx,
-        plan,
-        number,
-        third: Third::Num(a.count as u64),
-    }
+    answered(s, a.tx, plan, why, a.count as u64)
 }
 
 pub(crate) fn lock_line(s: Store, x: Tx, plan: Schedule, row: RowId) -> Turned
@@ -126,16 +125,7 @@ pub(crate) fn lock_line(s: Store, x: Tx, plan: Schedule, row: RowId) -> Turned
 {
     let a = row_lock(s, x, row);
     let why = a.refusal;
-    let number = number_of(why);
-    let store = a.store;
-    let tx = a.tx;
-    Turned {
-        store,
-        tx,
-        plan,
-        number,
-        third: Third::Num(0),
-    }
+    answered(a.store, a.tx, plan, why, 0)
 }
 
 pub(crate) fn abort_line(s: Store, x: Tx, plan: Schedule) -> Turned
@@ -143,16 +133,7 @@ pub(crate) fn abort_line(s: Store, x: Tx, plan: Schedule) -> Turned
 {
     let a = abort(s, x);
     let why = a.refusal;
-    let number = number_of(why);
-    let store = a.store;
-    let tx = a.tx;
-    Turned {
-        store,
-        tx,
-        plan,
-        number,
-        third: Third::Num(0),
-    }
+    answered(a.store, a.tx, plan, why, 0)
 }
 
 // "the next C, which judges it and uses it up whatever it answers"
@@ -161,17 +142,7 @@ pub(crate) fn commit_line(s: Store, x: Tx, plan: Schedule, logged: bool, cut: Cu
 {
     let a = commit(s, x, logged, plan, cut);
     let why = a.refusal;
-    let number = number_of(why);
-    let store = a.store;
-    let tx = a.tx;
-    let none = Schedule::none();
-    Turned {
-        store,
-        tx,
-        plan: none,
-        number,
-        third: Third::Num(a.stores as u64),
-    }
+    answered(a.store, a.tx, Schedule::none(), why, a.stores as u64)
 }
 
 pub(crate) fn fault_line(s: Store, x: Tx, plan: Schedule, f: Fault) -> Turned
@@ -192,15 +163,7 @@ pub(crate) fn recover_line(s: Store, x: Tx, plan: Schedule) -> Turned
 {
     let a = recover(s);
     let why = a.refusal;
-    let number = number_of(why);
-    let store = a.store;
-    Turned {
-        store,
-        tx: x,
-        plan,
-        number,
-        third: Third::Num(0),
-    }
+    answered(a.store, x, plan, why, 0)
 }
 
 // "A line that isn't one of these forms is answered 2"

@@ -1,33 +1,72 @@
--- `finish` meets its contract: nothing is left, or there is no room, or the last line ends.
+-- `finish` meets its contract: nothing is left, or there is no room, or the last line is turned at its place and answered.
 use mathlib.Core.Path.{_≡_}
 use native.Mathlib.Omega.{arith}
 use lib.ListN.{length, take, length-take}
 use borrow.Author.Needs.{needs}
-use Rattle.desk.specs.FeedLaws.{finish-none, finish-short, finish-line}
-use Rattle.desk.proofs.Long.{under-way-long}
+use Rattle.types.specs.Zero.{zeroTx}
+use Rattle.turn.specs.Turn.{place-in-below}
+use Rattle.desk.specs.Feed.{heldIn, reading}
+use Rattle.desk.specs.FeedLaws.{within, end-puts, finish-none, finish-short, finish-line}
+use Rattle.desk.proofs.Long.{txs-long, under-way-long}
 use Rattle.desk.proofs.feed.finish.Statement.{statement}
 use Rattle.desk.proofs.feed.finish.Tie as tie
 
 returns : tie.Need-returns
-returns c = let r = c .before .before .before .args .r in finish-none _ _ (omega (arith, length-take (r .held .count) (r .held .bytes), c .if1 .taken))
+returns c = let r = c .before .before .args .t1 in finish-none _ _ (omega (arith, length-take (r .held .count) (r .held .bytes), c .if1 .taken))
 
 returns-2 : tie.Need-returns-2
 returns-2 c = finish-short _ _ (omega arith)
 
-end-line-requires : tie.Need-end-line-requires
-end-line-requires c κs = search needs
+line-in-requires : tie.Need-line-in-requires
+line-in-requires c κs = search needs
+
+place-of-requires : tie.Need-place-of-requires
+place-of-requires c κs = search needs
+
+mul-turn : tie.Need-mul-turn
+mul-turn c = let r = c .before .before .before .before .before .before .before .args .t1 in let low = place-in-below (heldIn (r .held)) (c .before .before .line-in .ensures) (c .before .place-of .ensures) in search needs
+
+element-copy-out-turn : tie.Need-element-copy-out-turn
+element-copy-out-turn c = let r = c .before .before .before .before .before .before .before .args .t1 in place-in-below (heldIn (r .held)) (c .before .before .line-in .ensures) (c .before .place-of .ensures)
+
+turn-requires : tie.Need-turn-requires
+turn-requires c κs = search needs
+
+wrapping-add-u64-requires : tie.Need-wrapping-add-u64-requires
+wrapping-add-u64-requires c κs = search needs
+
+put-answer-requires : tie.Need-put-answer-requires
+put-answer-requires c κs = search needs
 
 same-length : tie.Need-same-length
 same-length c = search needs
 
 returns-3 : tie.Need-returns-3
 returns-3 c =
-    let e = c .before .before in
-    let some = e .before .before in
-    let s = some .before .before .before .before in
-    let r = s .args .r in
-    let left : length (take (r .held .count) (r .held .bytes)) ≡ 0 → ⊥ = λ z. some .before .if1 .left (omega (arith, length-take (r .held .count) (r .held .bytes), under-way-long r (s .good .0), z)) in
-    finish-line _ _ _ (e .end-line .result) left (omega arith) (e .end-line .ensures)
+    let put = c .before .before in
+    let next = put .before .before in
+    let turned = next .before in
+    let p = turned .before .before .before .before in
+    let room = p .before .before .before in
+    let s = room .before .before .before in
+    let r = s .args .t1 in
+    let line = p .before .line-in .ensures in
+    let low = place-in-below (heldIn (r .held)) line (p .place-of .ensures) in
+    let left : length (take (r .held .count) (r .held .bytes)) ≡ 0 → ⊥ = λ z. room .before .if1 .left (omega (arith, length-take (r .held .count) (r .held .bytes), under-way-long r (s .good .0), z)) in
+    finish-line _ _ _ (put .put-answer .result) left (room .if2 .left) (end-puts (reading r .desk) (heldIn (r .held)) (r .lines) (turned .turn .result) line (p .place-of .ensures) (within (r .txs) (p .place-of .result) _ zeroTx (omega (arith, low, txs-long r (s .good .0)))) (turned .turn .ensures) (next .wrapping-add-u64 .ensures) (put .put-answer .ensures))
 
 pub finish-spec : {M : Type 1} → statement M
-finish-spec = tie.close (tie.spec returns returns-2 end-line-requires same-length returns-3)
+finish-spec =
+    tie.close
+    (tie.spec
+    returns
+    returns-2
+    line-in-requires
+    place-of-requires
+    mul-turn
+    element-copy-out-turn
+    turn-requires
+    wrapping-add-u64-requires
+    put-answer-requires
+    same-length
+    returns-3)

@@ -5,10 +5,10 @@ use Rattle.faults.proofs.tries.try_letter.Statement.{statement}
 use Rattle.faults.proofs.tries.try_letter.Tie as tie
 
 abbrev Inv-loop : tie.InvT-loop
-Inv-loop b logged step letter tried k₀ k = Unit {0}
+Inv-loop b logged step letter naming tried k₀ k = Unit {0}
 
 abbrev μ-loop : tie.MeasureT-loop
-μ-loop b logged step letter tried k₀ k = tried - k
+μ-loop b logged step letter naming tried k₀ k = tried - k
 
 ks-tried-requires : tie.Need-ks-tried-requires Inv-loop μ-loop
 ks-tried-requires c κs = search needs

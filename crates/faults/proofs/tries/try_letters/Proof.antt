@@ -5,10 +5,10 @@ use Rattle.faults.proofs.tries.try_letters.Statement.{statement}
 use Rattle.faults.proofs.tries.try_letters.Tie as tie
 
 abbrev Inv-loop : tie.InvT-loop
-Inv-loop b logged step i₀ i = Unit {0}
+Inv-loop b logged step naming i₀ i = Unit {0}
 
 abbrev μ-loop : tie.MeasureT-loop
-μ-loop b logged step i₀ i = 5 - i
+μ-loop b logged step naming i₀ i = 5 - i
 
 loop-holds : tie.Need-loop-holds Inv-loop μ-loop
 loop-holds c = search needs

@@ -1,4 +1,5 @@
 -- `lock_line` meets its contract.
+use mathlib.Core.Path.{_∙_}
 use Rattle.turn.specs.Lines.{locked}
 use borrow.Author.Needs.{needs}
 use Rattle.turn.proofs.lines.lock_line.Statement.{statement}
@@ -7,11 +8,11 @@ use Rattle.turn.proofs.lines.lock_line.Tie as tie
 row-lock-requires : tie.Need-row-lock-requires
 row-lock-requires c κs = search needs
 
-number-of-requires : tie.Need-number-of-requires
-number-of-requires c κs = search needs
+answered-requires : tie.Need-answered-requires
+answered-requires c κs = search needs
 
 returns : tie.Need-returns
-returns c = let a = c .before .before .before .before .args in locked (a .s) (a .x) (a .plan) (a .row .0) (c .before .before .before .row-lock .ensures) (c .before .before .number-of .ensures)
+returns c = let a = c .before .before .args in c .answered .ensures ∙ locked (a .s) (a .x) (a .plan) (a .row .0) (c .before .row-lock .ensures)
 
 pub lock-line-spec : {M : Type 1} → statement M
-lock-line-spec = tie.close (tie.spec row-lock-requires number-of-requires returns)
+lock-line-spec = tie.close (tie.spec row-lock-requires answered-requires returns)

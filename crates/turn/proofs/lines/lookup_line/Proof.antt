@@ -1,4 +1,5 @@
 -- `lookup_line` meets its contract.
+use mathlib.Core.Path.{_∙_}
 use Rattle.turn.specs.Lines.{looked-up}
 use borrow.Author.Needs.{needs}
 use Rattle.turn.proofs.lines.lookup_line.Statement.{statement}
@@ -7,11 +8,11 @@ use Rattle.turn.proofs.lines.lookup_line.Tie as tie
 lookup-requires : tie.Need-lookup-requires
 lookup-requires c κs = search needs
 
-number-of-requires : tie.Need-number-of-requires
-number-of-requires c κs = search needs
+answered-requires : tie.Need-answered-requires
+answered-requires c κs = search needs
 
 returns : tie.Need-returns
-returns c = let a = c .before .before .before .args in looked-up (a .s) (a .x) (a .plan) (a .k) (c .before .before .lookup .ensures) (c .before .number-of .ensures)
+returns c = let a = c .before .before .args in c .answered .ensures ∙ looked-up (a .s) (a .x) (a .plan) (a .k) (c .before .lookup .ensures)
 
 pub lookup-line-spec : {M : Type 1} → statement M
-lookup-line-spec = tie.close (tie.spec lookup-requires number-of-requires returns)
+lookup-line-spec = tie.close (tie.spec lookup-requires answered-requires returns)

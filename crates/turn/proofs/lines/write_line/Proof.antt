@@ -1,4 +1,5 @@
 -- `write_line` meets its contract.
+use mathlib.Core.Path.{_∙_}
 use Rattle.turn.specs.Lines.{wrote}
 use borrow.Author.Needs.{needs}
 use Rattle.turn.proofs.lines.write_line.Statement.{statement}
@@ -7,14 +8,14 @@ use Rattle.turn.proofs.lines.write_line.Tie as tie
 write-requires : tie.Need-write-requires
 write-requires c κs = search needs
 
-number-of-requires : tie.Need-number-of-requires
-number-of-requires c κs = search needs
+cast-answered : tie.Need-cast-answered
+cast-answered c = search needs
 
-cast-t11 : tie.Need-cast-t11
-cast-t11 c = search needs
+answered-requires : tie.Need-answered-requires
+answered-requires c κs = search needs
 
 returns : tie.Need-returns
-returns c = let a = c .before .before .before .before .before .args in wrote (a .s) (a .x) (a .plan) (a .row .0) (a .v) (c .before .before .before .before .write .ensures) (c .before .before .before .number-of .ensures)
+returns c = let a = c .before .before .before .args in c .answered .ensures ∙ wrote (a .s) (a .x) (a .plan) (a .row .0) (a .v) (c .before .before .write .ensures)
 
 pub write-line-spec : {M : Type 1} → statement M
-write-line-spec = tie.close (tie.spec write-requires number-of-requires cast-t11 returns)
+write-line-spec = tie.close (tie.spec write-requires cast-answered answered-requires returns)
