@@ -20,11 +20,12 @@ use Rattle.rules.specs.Puts.{Put, putFree, putDrop, ownSlots, abortPuts, applyA
 use Rattle.rules.specs.Calls.{admits, abort}
 use Rattle.journal.specs.Journal.{Pushed}
 use Rattle.journal.specs.Holds.{kept-wide}
-use Rattle.admit.specs.Row.{marks-array}
+use Rattle.view.specs.Walked.{marks-array}
 use Rattle.view.specs.Few.{those-few}
 use Rattle.view.specs.Lent.{atRows, atPlaces, array-cons, array-end}
-use Rattle.look.specs.Slots.{ownSlot, own-slots}
+use Rattle.sight.specs.Slots.{ownSlot, own-slots}
 use Rattle.journal.specs.Pushing.{Pushing, pushing-next}
+use Rattle.admit.specs.Admission.{admitted, admitted-call}
 use Rattle.calls.specs.Whole.{heads-whole, next-whole, xmin-whole}
 use Rattle.laws.specs.Sized.{Sized}
 use Rattle.calls.specs.Refused.{choose, choose-done, choose-refused}
@@ -107,9 +108,9 @@ module _ (S : Store) (x : Tx) where
   unfolding abort choose
   answer = refl
 
-  module _ {why : Refusal} (e : why ≡ admits S x []) where
+  module _ {why : Refusal} (e : why ≡ admitted S x true) where
     pub abort-refused : isDone why ≡ false → record { refusal = why; store = S; tx = x } ≡ abort S x
-    abort-refused d = choose-refused done refused why _ e d ∙ answer
+    abort-refused d = choose-refused done refused why _ (e ∙ admitted-call S x) d ∙ answer
 
     pub abort-done : {T : Store} {y : Tx} → Sized S → isDone why ≡ true
         → T ≡ applyAll (abortPutsOf (atRows (S .heads)) (atPlaces (S .next)) (atPlaces (S .xmin)) (x .txid .0)) S → y ≡ onlyTxid (x .txid .0)
@@ -118,5 +119,5 @@ module _ (S : Store) (x : Tx) where
         let store-is : T ≡ applyAll (abortPuts S (x .txid .0)) S =
         (rw (heads-whole S z, next-whole S z, xmin-whole S z) at t) ∙ ap (λ ps. applyAll ps S) (sym (abort-puts S (x .txid .0))) in
         (λ i. record { refusal = why; store = store-is i; tx = y i })
-        ∙ choose-done done refused why _ e d
+        ∙ choose-done done refused why _ (e ∙ admitted-call S x) d
         ∙ answer

@@ -13,13 +13,14 @@ use Rattle.rules.specs.Types.{Store, Tx, Reply, Refusal, RowTooHigh, LockedByAn
 use Rattle.rules.specs.Admitted.{resting}
 use Rattle.rules.specs.Numbers.{Try, refuse, tries, isDone}
 use Rattle.rules.specs.Puts.{putLock, applyAll}
-use Rattle.rules.specs.Calls.{admits, admitsHealthy, lockedByAnother, rowLock}
+use Rattle.rules.specs.Calls.{admitsHealthy, lockedByAnother, rowLock}
 use Rattle.laws.specs.Sized.{Sized}
 use Rattle.laws.specs.Chain.{IsChain}
 use Rattle.laws.specs.Chained.{walk-sound}
 use Rattle.laws.specs.Parts.{repairable-parts, resting-parts}
 use Rattle.view.specs.Lent.{atRows, atPlaces, flagsAtPlaces, atActive}
 use Rattle.view.specs.Locks.{lockedOf, locked-of}
+use Rattle.admit.specs.Admission.{admitted}
 use Rattle.calls.specs.Refused.{unless, poisonedTries, found-healthy, admitted-both, choose, choose-done, choose-refused}
 use Rattle.calls.specs.Whole.{heads-whole, locked-whole, owner-whole, active-whole}
 
@@ -71,11 +72,11 @@ module _ (S : Store) (x : Tx) (r : ℕ) where
       either false w = refl
 
   -- as code finds it
-  module _ (z : Sized S) {head : ℕ} {locked : Bool} {admitted first why : Refusal}
+  module _ (z : Sized S) {head : ℕ} {locked : Bool} {tried first why : Refusal}
       (h : head ≡ getD (atRows (S .heads)) r 0)
       (l : locked ≡ lockedOf (flagsAtPlaces (S .locked)) (atPlaces (S .owner)) (atActive (S .active)) (x .txid .0) head)
-      (a : admitted ≡ admits S x [])
-      (e : first ≡ unless admitted (poisonedTries (S .poisoned)))
+      (a : tried ≡ admitted S x true)
+      (e : first ≡ unless tried (poisonedTries (S .poisoned)))
       (f : why ≡ unless first (lockTries r locked head)) where
     head-is : head ≡ head-at
     head-is = rw (heads-whole S z) at h
@@ -84,7 +85,7 @@ module _ (S : Store) (x : Tx) (r : ℕ) where
     locked-is = (rw (locked-whole S z, owner-whole S z, active-whole S z) at l) ∙ rw head-is (sym (locked-of S (x .txid .0) head-at))
 
     why-is : why ≡ lockWhy
-    why-is = found-healthy S x (lockTests r is-locked head-at) admitted first why (lockTries r locked head) a e f (λ _. lock-tries r head head-at locked is-locked head-is locked-is)
+    why-is = found-healthy S x (lockTests r is-locked head-at) tried first why (lockTries r locked head) a e f (λ _. lock-tries r head head-at locked is-locked head-is locked-is)
 
     pub lock-refused : isDone why ≡ false → record { refusal = why; store = S; tx = x } ≡ rowLock S x r
     lock-refused d = choose-refused done refused why _ why-is d ∙ answer

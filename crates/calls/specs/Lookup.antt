@@ -8,24 +8,25 @@ use lib.Dec.{ltb}
 use Rattle.types.specs.Limits.{rows, readLimit}
 use Rattle.rules.specs.Bools.{clash}
 use Rattle.rules.specs.Lists.{pad}
-use Rattle.rules.specs.Types.{Store, Tx, Found, ReadRecord, IndexRead, Refusal, ReadsFull, Open}
+use Rattle.rules.specs.Types.{Store, Tx, Found, ReadRecord, Refusal, ReadsFull, Open}
 use Rattle.rules.specs.Store.{stripeOf}
 use Rattle.rules.specs.Transaction.{readsOf, indexReadsOf, withReads, withIndexReads}
 use Rattle.rules.specs.Fit.{fit}
 use Rattle.rules.specs.Numbers.{Try, refuse, tries, isDone}
-use Rattle.rules.specs.Calls.{admits, admitsHealthy, recordReads, recordStamp, candidates, matching, asRow, lookup}
+use Rattle.rules.specs.Calls.{admitsHealthy, recordReads, recordStamp, candidates, matching, asRow, lookup}
 use Rattle.laws.specs.Sized.{Sized}
 use Rattle.view.specs.Lent.{atRows, atPlaces, flagsAtPlaces, flagsAtRows, atPostings, atStripes, array-same}
 use Rattle.view.specs.Marks.{mark-length}
 use Rattle.look.specs.Marks.{markedRows, noRows}
 use Rattle.look.specs.Candidates.{candidateMarks, candidateRows, candidates-marked, fit-rows}
-use Rattle.look.specs.Reads.{laid}
+use Rattle.look.specs.Reads.{laid, readsFrom, reads-from}
 use Rattle.look.specs.Lookup.{recordReadsOf, record-reads, matchingOf, matching-of}
 use Rattle.look.specs.Rows.{rowList}
-use Rattle.look.specs.Stamps.{indexReadList, indexConflict}
+use Rattle.look.specs.Stamps.{indexReadList, indexConflict, indexReadsFrom, index-reads-from}
 use Rattle.look.specs.declared.reads.ReadList.{ReadList}
 use Rattle.look.specs.declared.stamps.IndexReadList.{IndexReadList}
 use Rattle.look.specs.declared.lookup.RowList.{RowList}
+use Rattle.admit.specs.Admission.{admitted}
 use Rattle.calls.specs.Refused.{unless, poisonedTries, found-healthy, both-done, admitted-both, choose, choose-done, choose-refused}
 use Rattle.calls.specs.Whole.{heads-whole, next-whole, xmin-whole, key-whole, has-whole, postings-whole, stamps-whole}
 
@@ -56,12 +57,12 @@ pub looked-is : {t : ℕ} {b : Bool} {q : IndexReadList} {l : ReadList} {w y : T
     → t ≡ getD stamps (stripeOf k) 0
     → q ≡ indexReadList (recordStamp (stripeOf k) t (indexReadsOf x))
     → b ≡ indexConflict x t
-    → ((m : List ReadRecord) → l ≡ laid m → l .over ≡ false → w ≡ withReads m x)
-    → ((m : List IndexRead) → q ≡ indexReadList m → y ≡ withIndexReads m b w)
+    → w ≡ readsFrom l x
+    → y ≡ indexReadsFrom q b w
     → (m : List ReadRecord) → l ≡ laid m → l .over ≡ false → y ≡ looked stamps x m k
 unfolding looked
 looked-is {t} {b} {q} {l} {w} {y} stamps x k e f g r i m h over =
-    i (recordStamp (stripeOf k) t (indexReadsOf x)) f ∙ rw (g, r m h over, e)
+    i ∙ index-reads-from q (recordStamp (stripeOf k) t (indexReadsOf x)) b w f ∙ rw (g, r ∙ reads-from l m x h over, e)
 
 -- the marked rows of a fit transaction are the candidates
 marks-long : (postings : List ℕ) (count : ℕ) (x : Tx) (k : ℕ) → length (candidateMarks postings count x k) ≡ rows
@@ -98,17 +99,17 @@ module _ (S : Store) (x : Tx) (k : ℕ) where
   answer = refl
 
   -- as code finds it
-  module _ (z : Sized S) {marks : List Bool} {l : ReadList} {admitted first why : Refusal}
+  module _ (z : Sized S) {marks : List Bool} {l : ReadList} {tried first why : Refusal}
       (c : marks ≡ candidateMarks (atPostings (S .postings)) (S .«posting_count») x k)
       (h : l ≡ laid (recordReadsOf (atRows (S .heads)) (atPlaces (S .next)) (atPlaces (S .xmin)) x (markedRows (flagsAtRows marks)) (readsOf x)))
-      (a : admitted ≡ admits S x [])
-      (e : first ≡ unless admitted (poisonedTries (S .poisoned)))
+      (a : tried ≡ admitted S x true)
+      (e : first ≡ unless tried (poisonedTries (S .poisoned)))
       (f : why ≡ unless first (lookupTries (l .over))) where
     list-is : fit S x ≡ true → l ≡ laid reads-after
     list-is ok = (rw (heads-whole S z, next-whole S z, xmin-whole S z, rows-marked S x k marks z ok c) at h) ∙ ap laid (sym (record-reads S x (candidates S x k) (readsOf x)))
 
     why-is : why ≡ lookupWhy
-    why-is = found-healthy S x (lookupTests (ltb readLimit (length reads-after))) admitted first why (lookupTries (l .over)) a e f (λ ok. lookup-tries l reads-after (list-is ok))
+    why-is = found-healthy S x (lookupTests (ltb readLimit (length reads-after))) tried first why (lookupTries (l .over)) a e f (λ ok. lookup-tries l reads-after (list-is ok))
 
     pub lookup-refused : isDone why ≡ false → record { refusal = why; rows = replicate rows (asRow 0); count = 0; tx = x } ≡ lookup S x k
     lookup-refused d = choose-refused done refused why _ why-is d ∙ answer

@@ -11,12 +11,13 @@ use Rattle.rules.specs.Types.{Store, Tx, Value, Absent, Seen, ReadRecord, Refus
 use Rattle.rules.specs.Store.{valueAt}
 use Rattle.rules.specs.Transaction.{readsOf, withReads}
 use Rattle.rules.specs.Numbers.{Try, refuse, tries, isDone}
-use Rattle.rules.specs.Calls.{admits, admitsHealthy, recordRead, readPtr, read}
+use Rattle.rules.specs.Calls.{admitsHealthy, recordRead, readPtr, read}
 use Rattle.laws.specs.Sized.{Sized}
 use Rattle.view.specs.Lent.{atRows, atPlaces, flagsAtPlaces}
-use Rattle.look.specs.Found.{readPtrOf, read-ptr}
-use Rattle.look.specs.Reads.{laid, recordReadOf, record-read}
+use Rattle.sight.specs.Found.{readPtrOf, read-ptr}
+use Rattle.look.specs.Reads.{laid, recordReadOf, record-read, readsFrom, reads-from}
 use Rattle.look.specs.declared.reads.ReadList.{ReadList}
+use Rattle.admit.specs.Admission.{admitted}
 use Rattle.calls.specs.Refused.{unless, poisonedTries, found-healthy, both-done, choose, choose-done, choose-refused}
 use Rattle.calls.specs.Whole.{heads-whole, next-whole, xmin-whole, key-whole, has-whole}
 
@@ -58,16 +59,16 @@ module _ (S : Store) (x : Tx) (r : ℕ) where
   answer = refl
 
   -- as code finds it
-  module _ (z : Sized S) {l : ReadList} {admitted first why : Refusal}
+  module _ (z : Sized S) {l : ReadList} {tried first why : Refusal}
       (h : l ≡ laid (recordReadOf (atRows (S .heads)) (atPlaces (S .next)) (atPlaces (S .xmin)) x r (readsOf x)))
-      (a : admitted ≡ admits S x [])
-      (e : first ≡ unless admitted (poisonedTries (S .poisoned)))
+      (a : tried ≡ admitted S x true)
+      (e : first ≡ unless tried (poisonedTries (S .poisoned)))
       (f : why ≡ unless first (readTries r (l .over))) where
     list-is : l ≡ laid reads-after
     list-is = (rw (heads-whole S z, next-whole S z, xmin-whole S z) at h) ∙ ap laid (sym (record-read S x r (readsOf x)))
 
     why-is : why ≡ readWhy
-    why-is = found-healthy S x (readTests r (ltb readLimit (length reads-after))) admitted first why (readTries r (l .over)) a e f (λ _. read-tries r l reads-after list-is)
+    why-is = found-healthy S x (readTests r (ltb readLimit (length reads-after))) tried first why (readTries r (l .over)) a e f (λ _. read-tries r l reads-after list-is)
 
     pub read-refused : isDone why ≡ false → record { refusal = why; value = Absent; tx = x } ≡ read S x r
     read-refused d = choose-refused done refused why _ why-is d ∙ answer
@@ -75,12 +76,12 @@ module _ (S : Store) (x : Tx) (r : ℕ) where
     pub read-done : {p : ℕ} {v : Value} {y : Tx} → isDone why ≡ true
         → p ≡ readPtrOf (atRows (S .heads)) (atPlaces (S .next)) (atPlaces (S .xmin)) x r
         → v ≡ valueAt (atPlaces (S .key)) (flagsAtPlaces (S .has)) p
-        → ((m : List ReadRecord) → l ≡ laid m → l .over ≡ false → y ≡ withReads m x)
+        → y ≡ readsFrom l x
         → record { refusal = why; value = v; tx = y } ≡ read S x r
     read-done {p} {v} {y} d q u w =
         let ptr-is : p ≡ readPtr S x r = (rw (heads-whole S z, next-whole S z, xmin-whole S z) at q) ∙ sym (read-ptr S x r) in
         let value-is : v ≡ valueAt (S .key) (S .has) (readPtr S x r) = (rw (key-whole S z, has-whole S z) at u) ∙ ap (valueAt (S .key) (S .has)) ptr-is in
-        let tx-is : y ≡ withReads reads-after x = w reads-after list-is (reads-fit r (l .over) (both-done why first (readTries r (l .over)) f d .1)) in
+        let tx-is : y ≡ withReads reads-after x = w ∙ reads-from l reads-after x list-is (reads-fit r (l .over) (both-done why first (readTries r (l .over)) f d .1)) in
         (λ i. record { refusal = why; value = value-is i; tx = tx-is i })
         ∙ choose-done done refused why _ why-is d
         ∙ answer

@@ -10,6 +10,7 @@ use Rattle.rules.specs.Admitted.{resting}
 use Rattle.rules.specs.Fit.{fit}
 use Rattle.rules.specs.Numbers.{Try, refuse, tries, isDone}
 use Rattle.rules.specs.Calls.{admits, admitsHealthy}
+use Rattle.admit.specs.Admission.{admitted, admitted-call}
 
 -- what was refused before, else what comes next
 unfoldable pub unless : Refusal → Refusal → Refusal
@@ -64,12 +65,13 @@ admitted-both S x more d = go (resting S) (fit S x) refl refl d
     go false b p q h = clash h refl
 
 -- as code finds it: admission, poison, then the call's own tests, which may lean on a fit transaction
-pub found-healthy : (S : Store) (x : Tx) (more : List Try) (admitted first why own : Refusal)
-    → admitted ≡ admits S x [] → first ≡ unless admitted (poisonedTries (S .poisoned)) → why ≡ unless first own → (fit S x ≡ true → own ≡ tries more) → why ≡ admitsHealthy S x more
-found-healthy S x more admitted first why own a e f g =
+pub found-healthy : (S : Store) (x : Tx) (more : List Try) (tried first why own : Refusal)
+    → tried ≡ admitted S x true → first ≡ unless tried (poisonedTries (S .poisoned)) → why ≡ unless first own → (fit S x ≡ true → own ≡ tries more) → why ≡ admitsHealthy S x more
+found-healthy S x more tried first why own q e f g =
+    let a = q ∙ admitted-call S x in
     let whole : unless first (tries more) ≡ admitsHealthy S x more = rw (e, a) (sym (healthy-then S x more)) in
     by (isDone first)
-    (λ y. let b = both-done first admitted (poisonedTries (S .poisoned)) e y in
+    (λ y. let b = both-done first tried (poisonedTries (S .poisoned)) e y in
     let ok = admitted-both S x [] (sym (ap isDone a) ∙ b .0) in
     f ∙ ap (unless first) (g (ok .1)) ∙ whole)
     (λ n. f ∙ sym (unless-kept first own n) ∙ unless-kept first (tries more) n ∙ whole)

@@ -13,11 +13,12 @@ use Rattle.rules.specs.Types.{Store, Tx, Value, Absent, Key, Written, Refusal, 
 use Rattle.rules.specs.Transaction.{writesOf, withWrites}
 use Rattle.rules.specs.Numbers.{Try, refuse, tries, isDone}
 use Rattle.rules.specs.Puts.{takeSlot, applyAll}
-use Rattle.rules.specs.Calls.{admits, admitsHealthy, lowestFree, baseOf, write}
+use Rattle.rules.specs.Calls.{admitsHealthy, lowestFree, baseOf, write}
 use Rattle.laws.specs.Sized.{Sized}
 use Rattle.journal.specs.Journal.{putLimit}
 use Rattle.view.specs.Lent.{atRows, atPlaces}
-use Rattle.look.specs.Found.{baseOfRow, base-of}
+use Rattle.sight.specs.Found.{baseOfRow, base-of}
+use Rattle.admit.specs.Admission.{admitted}
 use Rattle.calls.specs.Refused.{unless, poisonedTries, found-healthy, choose, choose-done, choose-refused}
 use Rattle.calls.specs.Whole.{heads-whole, next-whole, xmin-whole}
 
@@ -74,16 +75,16 @@ module _ (S : Store) (x : Tx) (r : ℕ) (v : Value) where
   answer = refl
 
   -- as code finds it
-  module _ (z : Sized S) {free : ℕ} {admitted first why : Refusal}
+  module _ (z : Sized S) {free : ℕ} {tried first why : Refusal}
       (h : free ≡ lowestFree (atPlaces (S .xmin)))
-      (a : admitted ≡ admits S x [])
-      (e : first ≡ unless admitted (poisonedTries (S .poisoned)))
+      (a : tried ≡ admitted S x true)
+      (e : first ≡ unless tried (poisonedTries (S .poisoned)))
       (f : why ≡ unless first (writeTries r (x .«write_count») free)) where
     free-is : free ≡ free-at
     free-is = rw (xmin-whole S z) at h
 
     why-is : why ≡ writeWhy
-    why-is = found-healthy S x (writeTests r (x .«write_count») free-at) admitted first why (writeTries r (x .«write_count») free) a e f (λ _. write-tries r (x .«write_count») free free-at free-is)
+    why-is = found-healthy S x (writeTests r (x .«write_count») free-at) tried first why (writeTries r (x .«write_count») free) a e f (λ _. write-tries r (x .«write_count») free free-at free-is)
 
     pub write-refused : isDone why ≡ false → record { refusal = why; slot = record { 0 = 0 }; store = S; tx = x } ≡ write S x r v
     write-refused d = choose-refused done refused why _ why-is d ∙ answer

@@ -5,19 +5,19 @@ ghost use Rattle.rules.specs.Calls.{abort};
 ghost use Rattle.journal.specs.Adds.{Adds};
 ghost use Rattle.view.specs.Lent.{atRows, atPlaces};
 ghost use Rattle.calls.specs.Abort.{ownFrees, abortPutsOf};
-use super::admission::admits;
+use admit::admission::admitted;
 use admit::admission::is_done;
-use admit::walk::walk_all;
 use journal::Journal;
 use journal::Kind;
 use look::changed::only_txid;
-use look::slots::is_own;
+use sight::slots::is_own;
 use types::Reply;
 use types::RowId;
 use types::SlotPtr;
 use types::Store;
 use types::Tx;
 use types::Txid;
+use view::walk::walk_all;
 
 // A free for each off-chain slot of t, rising, by the marks of the walk.
 fn push_own<'a>(
@@ -62,7 +62,7 @@ fn plan_abort<'a>(
 pub fn abort(s: Store, x: Tx) -> Reply
     ensures { λ q. ⌜ q ≡ abort s x ⌝ }
 {
-    let why = admits(s, x);
+    let why = admitted(s, x, true);
     if !is_done(why) {
         return Reply {
             refusal: why,

@@ -2,7 +2,6 @@
 // journal of the puts that it plans.
 
 pub mod abort;
-mod admission;
 pub mod begin;
 pub mod lock;
 pub mod lookup;

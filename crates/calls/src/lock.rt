@@ -9,8 +9,8 @@ ghost use Rattle.journal.specs.Journal.{placeBase};
 ghost use Rattle.journal.specs.Adds.{Adds};
 ghost use Rattle.calls.specs.Refused.{unless};
 ghost use Rattle.calls.specs.Lock.{lockTries};
-use super::admission::admits;
 use super::refusal::healthy;
+use admit::admission::admitted;
 use admit::admission::is_done;
 use journal::Journal;
 use journal::Kind;
@@ -57,8 +57,8 @@ pub fn row_lock(s: Store, x: Tx, r: RowId) -> Reply
 {
     let head = head_of(&s.heads, r);
     let locked = locked_by_another(&s.locked, &s.owner, &s.active, x.txid, head);
-    let admitted = admits(s, x);
-    let first = healthy(admitted, s.poisoned);
+    let tried = admitted(s, x, true);
+    let first = healthy(tried, s.poisoned);
     let why = lock_refusal(first, r, head, locked);
     if !is_done(why) {
         return Reply {

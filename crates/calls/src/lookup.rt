@@ -9,8 +9,8 @@ ghost use Rattle.view.specs.Lent.{atStripes};
 ghost use Rattle.look.specs.Reads.{laid};
 ghost use Rattle.calls.specs.Refused.{unless};
 ghost use Rattle.calls.specs.Lookup.{lookupTries, looked};
-use super::admission::admits;
 use super::refusal::healthy;
+use admit::admission::admitted;
 use admit::admission::is_done;
 use look::candidates::candidates;
 use look::changed::with_index_reads;
@@ -58,8 +58,8 @@ pub fn lookup(s: Store, x: Tx, k: u32) -> Found
 {
     let marks = candidates(&s.postings, s.posting_count, x, k);
     let l = record_marked(&s.heads, &s.next, &s.xmin, &marks, x);
-    let admitted = admits(s, x);
-    let first = healthy(admitted, s.poisoned);
+    let tried = admitted(s, x, true);
+    let first = healthy(tried, s.poisoned);
     let why = lookup_refusal(first, l.over);
     if !is_done(why) {
         return Found {

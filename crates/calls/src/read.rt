@@ -4,13 +4,13 @@ ghost use mathlib.Core.Path.{_≡_};
 ghost use Rattle.rules.specs.Calls.{read};
 ghost use Rattle.calls.specs.Refused.{unless};
 ghost use Rattle.calls.specs.Read.{readTries};
-use super::admission::admits;
 use super::refusal::healthy;
+use admit::admission::admitted;
 use admit::admission::is_done;
 use look::changed::with_reads;
-use look::found::read_ptr;
 use look::reads::with_read;
-use look::slots::value_at;
+use sight::found::read_ptr;
+use sight::slots::value_at;
 use types::Fate;
 use types::Refusal;
 use types::RowId;
@@ -40,8 +40,8 @@ pub fn read(s: Store, x: Tx, r: RowId) -> Seen
     ensures { λ q. ⌜ q ≡ read s x (r .0) ⌝ }
 {
     let l = with_read(&s.heads, &s.next, &s.xmin, x, r);
-    let admitted = admits(s, x);
-    let first = healthy(admitted, s.poisoned);
+    let tried = admitted(s, x, true);
+    let first = healthy(tried, s.poisoned);
     let why = read_refusal(first, r, l.over);
     if !is_done(why) {
         return Seen {

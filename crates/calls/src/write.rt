@@ -8,14 +8,14 @@ ghost use Rattle.journal.specs.Journal.{placeBase};
 ghost use Rattle.journal.specs.Adds.{Adds};
 ghost use Rattle.calls.specs.Refused.{unless};
 ghost use Rattle.calls.specs.Write.{writeTries};
-use super::admission::admits;
 use super::refusal::healthy;
+use admit::admission::admitted;
 use admit::admission::is_done;
 use journal::Journal;
 use journal::Kind;
 use look::changed::with_write;
-use look::found::base_of;
-use look::slots::lowest_free;
+use sight::found::base_of;
+use sight::slots::lowest_free;
 use types::Fate;
 use types::Refusal;
 use types::RowId;
@@ -70,8 +70,8 @@ pub fn write(s: Store, x: Tx, r: RowId, v: Value) -> Written
     ensures { λ q. ⌜ q ≡ write s x (r .0) v ⌝ }
 {
     let free = lowest_free(&s.xmin);
-    let admitted = admits(s, x);
-    let first = healthy(admitted, s.poisoned);
+    let tried = admitted(s, x, true);
+    let first = healthy(tried, s.poisoned);
     let why = write_refusal(first, r, x.write_count, free);
     if !is_done(why) {
         return Written {

@@ -18,13 +18,13 @@ use Rattle.rules.specs.Commit.{count, strikes, runOf}
 use Rattle.rules.specs.Gates.{Gate, gates}
 use Rattle.journal.specs.Journal.{Holds}
 use Rattle.journal.specs.Adds.{Adds}
-use Rattle.admit.specs.Walked.{walk-long}
+use Rattle.view.specs.Walked.{walk-long}
 use Rattle.view.specs.Lent.{array, array-same, atRows, atPlaces}
-use Rattle.steps.specs.declared.finals.Finals.{Finals}
-use Rattle.steps.specs.Faults.{struckBy}
+use Rattle.asks.specs.declared.finals.Finals.{Finals}
+use Rattle.asks.specs.Faults.{struckBy}
 use Rattle.steps.specs.Stops.{firstTrue, cleanGate, gateOf}
 use Rattle.steps.specs.Whole.{run-puts}
-use Rattle.steps.specs.Finals.{finalsLaid}
+use Rattle.asks.specs.Finals.{finalsLaid}
 use Rattle.plan.specs.declared.run.Struck.{Struck}
 use Rattle.plan.specs.declared.run.Plan.{Plan}
 use Rattle.plan.specs.Parts.{putsAt}

@@ -17,7 +17,7 @@ use Rattle.rules.specs.Answer.{noEvents, noRecord, uncut, cutOff, answer}
 use Rattle.journal.specs.Journal.{putLimit, puts, Holds}
 use Rattle.journal.specs.Holds.{holds-count, holds-cut}
 use Rattle.steps.specs.declared.ends.Ending.{Ending}
-use Rattle.steps.specs.Faults.{letters}
+use Rattle.asks.specs.Faults.{letters}
 use Rattle.steps.specs.Stops.{cleanGate, letterIn, gateOf}
 use Rattle.steps.specs.Answers.{recordIf, eventsBy}
 use Rattle.steps.specs.Ends.{gateNumbers, gatePassed, gateLeft, endingFor, txFor}

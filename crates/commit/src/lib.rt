@@ -9,7 +9,7 @@ mod run;
 
 use admit::admission::admitted;
 use admit::admission::is_done;
-use admit::schedule::schedule_fit;
+use fitting::schedule::schedule_fit;
 use types::Answer;
 use types::Cut;
 use types::Schedule;

@@ -6,19 +6,19 @@ ghost use Rattle.laws.specs.Sized.{Sized};
 ghost use Rattle.rules.specs.Types.{Store, Tx};
 ghost use Rattle.rules.specs.Fit.{fit};
 ghost use Rattle.rules.specs.Faults.{X, Q};
-ghost use Rattle.steps.specs.Faults.{struckBy};
+ghost use Rattle.asks.specs.Faults.{struckBy};
 ghost use Rattle.plan.specs.Planned.{planOf, struckOf};
-use admit::walk::walk_all;
+use asks::faults::strikes;
+use asks::faults::struck_count;
+use asks::finals::final_writes;
 use plan::run::Plan;
 use plan::run::Struck;
 use plan::run::plan_of;
-use steps::faults::strikes;
-use steps::faults::struck_count;
-use steps::finals::final_writes;
 use types::RowId;
 use types::Schedule;
 use types::SlotPtr;
 use types::Tx;
+use view::walk::walk_all;
 
 // The plan, from the store's arrays and the transaction.
 pub fn plan_for<'a>(

@@ -1,7 +1,7 @@
 -- Demand 2: with an admitted, unpoisoned store, a fit open transaction, no fault, no cut, and either logging, no writes or a store not durably
 -- bound, a commit succeeds exactly when the four tests all say no; and what it then leaves.
 use mathlib.Core.Path.{_≡_, refl, sym, ap, _∙_, subst}
-use mathlib.Core.Bool.{Bool, true, false, cond, _&&_, _||_}
+use mathlib.Core.Bool.{Bool, true, false, cond, _&&_}
 use mathlib.Core.List.{List, [], _∷_, _++_}
 use mathlib.Core.Logic.{_↔_, _≢_, _⊎_}
 use Prim.Native.Nat.{ℕ, _<_}

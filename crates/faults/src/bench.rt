@@ -1,6 +1,6 @@
 // The prepared store, and the open transaction whose commit has work at every step.
 
-use super::sight::rows_of;
+use super::shown::rows_of;
 use script::Line;
 use turn::turn;
 use types::Cut;

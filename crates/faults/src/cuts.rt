@@ -2,8 +2,8 @@
 
 use super::bench::Bench;
 use super::print;
-use super::sight;
-use super::sight::sight_of;
+use super::shown;
+use super::shown::sight_of;
 use commit::commit;
 use script::refusal::number_of;
 use types::Cut;
@@ -26,16 +26,16 @@ fn cut_sight(b: Bench, logged: bool, plan: Schedule, whole: u64, n: u32) -> u8 {
     let why = a.refusal;
     let number = number_of(why);
     if a.stores != n as usize {
-        return sight::WRONG;
+        return shown::WRONG;
     }
     if number == whole {
-        return sight::WHOLE;
+        return shown::WHOLE;
     }
     if number != 18 {
-        return sight::WRONG;
+        return shown::WRONG;
     }
     if a.tx.txid.0 != 0 {
-        return sight::WRONG;
+        return shown::WRONG;
     }
     sight_of(b, a.store)
 }

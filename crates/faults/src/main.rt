@@ -6,7 +6,7 @@ mod cuts;
 mod fate;
 mod print;
 mod row;
-mod sight;
+mod shown;
 mod trial;
 mod tries;
 

@@ -1,9 +1,9 @@
 // The lines written.
 
 use super::fate::fate_in;
-use super::sight;
+use super::shown;
 use super::trial::Trial;
-use admit::store::resting;
+use resting::rest::resting;
 use types::Answer;
 use types::Fate;
 use types::Fault;
@@ -162,12 +162,12 @@ pub fn answer(a: Answer, n: u64, t: Txid) {
 
 pub fn sight(v: u8) {
     match v {
-        sight::OLD => word(b"old"),
-        sight::NEW => word(b"new"),
-        sight::MIXED => word(b"MIXED"),
-        sight::REFUSED => word(b"RECOVERY REFUSED"),
-        sight::UNREST => word(b"NOT AT REST"),
-        sight::WHOLE => word(b"whole"),
+        shown::OLD => word(b"old"),
+        shown::NEW => word(b"new"),
+        shown::MIXED => word(b"MIXED"),
+        shown::REFUSED => word(b"RECOVERY REFUSED"),
+        shown::UNREST => word(b"NOT AT REST"),
+        shown::WHOLE => word(b"whole"),
         _ => word(b"WRONG ANSWER"),
     }
 }

@@ -3,8 +3,8 @@
 use super::bench::Bench;
 use super::cuts::write_cuts;
 use super::print;
-use super::sight;
-use super::sight::sight_of;
+use super::shown;
+use super::shown::sight_of;
 use super::trial::Trial;
 use super::trial::schedule_of;
 use commit::commit;
@@ -28,7 +28,7 @@ pub fn is_unfit(b: Bench, logged: bool, f: Fault) -> bool {
     if a.stores != 0 {
         return false;
     }
-    sight_of(b, a.store) == sight::OLD
+    sight_of(b, a.store) == shown::OLD
 }
 
 pub fn row(b: Bench, logged: bool, t: Trial) {

@@ -13,7 +13,7 @@ use Rattle.rules.specs.Types.{Store}
 use Rattle.rules.specs.Store.{used, usedSlots, activeTxids, activeInForm, slotsInForm}
 use Rattle.rules.specs.Chains.{chainFrom, walk, on}
 use Rattle.rules.specs.Admitted.{finished, chainOk, offOk, repairable}
-use Rattle.rules.specs.Bools.{by, clash, or-true, or-left, or-right, and-true, every-cons, cons-every, every-none}
+use Rattle.rules.specs.Bools.{by, clash, or-true, or-left, or-right, and-true, every-each, cons-every, every-none}
 use Rattle.laws.specs.Lists.{all-at, at-all, each-or, or-each, all-mem, mem-all, all-nonzero, nonzero-all}
 use Rattle.laws.specs.Chain.{chain-below}
 use Rattle.laws.specs.Sound.{walk-is, rows-sound}
@@ -123,13 +123,11 @@ form-active : (act : List ℕ) (clock : ℕ) → activeInForm act clock ≡ true
 unfolding activeInForm
 form-active act clock h =
     let l = activeTxids act in
-    let h0 = every-cons _ _ h in
-    let h1 = every-cons _ _ (h0 .1) in
-    let h2 = every-cons _ _ (h1 .1) in
+    let p = every-each _ h in
     record {
-      climb = rising-is 1 l (h0 .0);
-      past = λ t m. ltb-true t clock (all-mem (λ u. ltb u clock) l (h1 .0) t m);
-      after = zero-from (length l) act (h2 .0);
+      climb = rising-is 1 l (p .0);
+      past = λ t m. ltb-true t clock (all-mem (λ u. ltb u clock) l (p .1 .0) t m);
+      after = zero-from (length l) act (p .1 .1 .0);
     }
 
 active-form : (act : List ℕ) (clock : ℕ) → ActiveForm act clock → activeInForm act clock ≡ true

@@ -12,7 +12,7 @@ use Rattle.rules.specs.Types.{Store}
 use Rattle.rules.specs.Store.{usedSlots, posting, postingsOf, postingsInForm}
 use Rattle.rules.specs.Chains.{walk, on}
 use Rattle.rules.specs.Admitted.{finished, headPostings, restsAt, resting}
-use Rattle.rules.specs.Bools.{by, clash, or-true, or-right, and-true, every-cons, cons-every, every-none}
+use Rattle.rules.specs.Bools.{by, clash, or-true, or-right, and-true, every-each, cons-every, every-none}
 use Rattle.index.specs.Resting.{settles-settled, settled-settles}
 use Rattle.laws.specs.Lists.{all-mem, mem-all, all-nonzero, nonzero-all}
 use Rattle.laws.specs.Sized.{Sized}
@@ -43,15 +43,12 @@ pub record Rests (S : Store) (L : ℕ → List ℕ) : Type 0 where
 pub form-postings : (S : Store) → postingsInForm S ≡ true → PostingForm S
 unfolding postingsInForm
 form-postings S h =
-    let h0 = every-cons _ _ h in
-    let h1 = every-cons _ _ (h0 .1) in
-    let h2 = every-cons _ _ (h1 .1) in
-    let h3 = every-cons _ _ (h2 .1) in
+    let p = every-each _ h in
     record {
-      few = leb-true (S .«posting_count») postingLimit (h0 .0);
-      climb = rising-is 0 (postingsOf S) (h1 .0);
-      keys = λ c m. ltb-true c (posting keyEnd 0) (all-mem (λ c. ltb c (posting keyEnd 0)) (postingsOf S) (h2 .0) c m);
-      after = zero-from (S .«posting_count») (S .postings) (h3 .0);
+      few = leb-true (S .«posting_count») postingLimit (p .0);
+      climb = rising-is 0 (postingsOf S) (p .1 .0);
+      keys = λ c m. ltb-true c (posting keyEnd 0) (all-mem (λ c. ltb c (posting keyEnd 0)) (postingsOf S) (p .1 .1 .0) c m);
+      after = zero-from (S .«posting_count») (S .postings) (p .1 .1 .1 .0);
     }
 
 postings-form : (S : Store) → PostingForm S → postingsInForm S ≡ true

@@ -130,7 +130,7 @@ module _ (S : Store) (x : Tx) (logged : Bool) (plan : Schedule) where
 
     -- past the tests: publication, recycling, the finish
     module _ (p : Passed S x logged plan) where
-      based : writeBaseConflict (S .heads) x ≡ false
+      pub based : writeBaseConflict (S .heads) x ≡ false
       based =
           let a = or-false (indexReadConflict (S .stamps) x) (rowLockConflict S x || (serializationConflict (S .xmin) (S .xmax) x || writeBaseConflict (S .heads) x)) (p .agreed) in
           let b = or-false (rowLockConflict S x) (serializationConflict (S .xmin) (S .xmax) x || writeBaseConflict (S .heads) x) (a .1) in

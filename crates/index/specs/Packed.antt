@@ -6,9 +6,9 @@ use Prim.Native.Nat.{ℕ, zero, suc, _≤_}
 use native.Mathlib.Omega.{arith}
 use lib.ListN.{length, take, drop}
 use lib.Dec.{eqb}
-use borrow.Author.Tests.{eqb-true, eqb-false, ne-eqb}
+use borrow.Author.Tests.{eqb-false, ne-eqb}
 use Rattle.rules.specs.Bools.{by, and-true, or-false}
-use Rattle.rules.specs.Lists.{all, memb, allZero, isZero, pad, beforeZero}
+use Rattle.rules.specs.Lists.{all, memb, pad, beforeZero}
 
 module _ {ℓ} {A : Type ℓ} where
   -- the array has its n places
@@ -55,7 +55,3 @@ before-pad (suc n) (x ∷ l) h z =
 pub before-take : (a : List ℕ) → beforeZero a ≡ take (length (beforeZero a)) a
 before-take [] = refl
 before-take (x ∷ a) = by (eqb x 0) (λ e. rw e) (λ e. rw e (ap (λ (m : List ℕ). x ∷ m) (before-take a)))
-
--- .. and the array in its form
-pub pad-before : (n : ℕ) (a : List ℕ) → length a ≡ n → allZero (drop (length (beforeZero a)) a) ≡ true → pad n 0 (beforeZero a) ≡ a
-pad-before n a e h = rw (before-take a) (pad-take 0 isZero (λ x. eqb-true x 0) n (length (beforeZero a)) a e h)

@@ -7,7 +7,6 @@ ghost use Rattle.rules.specs.Puts.{put, applyAll};
 ghost use Rattle.journal.specs.Journal.{Pushed, puts, putLimit};
 
 mod fields;
-pub mod packed;
 
 use types::Store;
 use view::lent::clipped;

@@ -7,7 +7,7 @@ use Rattle.types.specs.Limits.{activeLimit, writeLimit, readLimit, indexReadLim
 use Rattle.rules.specs.Lists.{all, allZero}
 use Rattle.rules.specs.Types.{Tx, Write, ReadRecord, IndexRead}
 use Rattle.rules.specs.Fit.{countsFit}
-use Rattle.rules.specs.Bools.{every-cons, every-none, cons-every}
+use Rattle.rules.specs.Bools.{every-each, every-none, cons-every}
 
 -- the arrays' lengths: Rattle's types give them, the definitions' lists don't carry them
 pub record SizedTx (x : Tx) : Type 0 where
@@ -44,17 +44,8 @@ pub record CountsFit (x : Tx) : Type 0 where
 pub counts-parts : (x : Tx) → countsFit x ≡ true → CountsFit x
 unfolding countsFit
 counts-parts x h =
-    let h0 = every-cons _ _ h in
-    let h1 = every-cons _ _ (h0 .1) in
-    let h2 = every-cons _ _ (h1 .1) in
-    let h3 = every-cons _ _ (h2 .1) in
-    let h4 = every-cons _ _ (h3 .1) in
-    let h5 = every-cons _ _ (h4 .1) in
-    let h6 = every-cons _ _ (h5 .1) in
-    let h7 = every-cons _ _ (h6 .1) in
-    let h8 = every-cons _ _ (h7 .1) in
-    let h9 = every-cons _ _ (h8 .1) in
-    record { writes = h0 .0; reads = h1 .0; «index_reads» = h2 .0; snapshot = h3 .0; savepoints = h4 .0; noWrites = h5 .0; noReads = h6 .0; noIndexReads = h7 .0; noTxids = h8 .0; noSavepoints = h9 .0 }
+    let p = every-each _ h in
+    record { writes = p .0; reads = p .1 .0; «index_reads» = p .1 .1 .0; snapshot = p .1 .1 .1 .0; savepoints = p .1 .1 .1 .1 .0; noWrites = p .1 .1 .1 .1 .1 .0; noReads = p .1 .1 .1 .1 .1 .1 .0; noIndexReads = p .1 .1 .1 .1 .1 .1 .1 .0; noTxids = p .1 .1 .1 .1 .1 .1 .1 .1 .0; noSavepoints = p .1 .1 .1 .1 .1 .1 .1 .1 .1 .0 }
 
 pub parts-counts : (x : Tx) → CountsFit x → countsFit x ≡ true
 unfolding countsFit

@@ -25,4 +25,5 @@ pub mod Abort
 pub mod CommitAborts
 -- All of them.
 pub mod Others
+pub mod CommitOthers
 pub mod Always

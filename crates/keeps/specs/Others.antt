@@ -19,7 +19,7 @@ use Rattle.laws.specs.Sized.{Sized}
 use Rattle.index.specs.Rising.{mem-without}
 use Rattle.heart.specs.Resting.{Rests, rests, rested}
 use Rattle.keeps.specs.Refusals.{begin-accepted, rowLock-accepted}
-use Rattle.keeps.specs.StaysFit.{stays-fit}
+use Rattle.keeps.specs.StaysFit.{on-same, stays-fit}
 use Rattle.keeps.specs.Counts.{SizedTx}
 use Rattle.keeps.specs.Keeps.{Keeps}
 use Rattle.keeps.specs.Begin.{mem-more, begin-begins, begin-chains, begin-keeps}
@@ -31,7 +31,7 @@ use Rattle.keeps.specs.Abort.{SameSlot, abort-aborts, abort-chains, abor
 other-keeps : (S T : Store) (y : Tx) (L : ℕ → List ℕ) → Rests S L → Sized S → Rests T L → Sized T → T .heads ≡ S .heads → S .clock ≤ T .clock
     → ((n : ℕ) → 0 < getD (S .xmin) n 0 → getD (S .xmin) n 0 ≡ y .txid .0 → (getD (T .xmin) n 0 ≡ getD (S .xmin) n 0) × (getD (T .next) n 0 ≡ getD (S .next) n 0))
     → memb (y .txid .0) (activeTxids (T .active)) ≡ true → Keeps S y → Keeps T y
-other-keeps S T y L R z Q w heads le same a K = record { sized = w; shaped = K .shaped; rests = rested T L w Q; fits = stays-fit S T y L R z Q w heads le same (K .fits); active = a }
+other-keeps S T y L R z Q w heads le same a K = record { sized = w; shaped = K .shaped; rests = rested T L w Q; fits = stays-fit S T y le same (λ n u q e. on-same S T L R z Q w heads n ∙ e) (K .fits); active = a }
 
 -- begin
 pub begin-others : (S : Store) (y : Tx) → numberOf (begin S .refusal) ≡ 0 → Keeps S y → Keeps (begin S .store) y

@@ -1,5 +1,5 @@
 -- Write: the slot it takes and the base it records; the store rests, and the transaction stays fit.
-use mathlib.Core.Path.{_≡_, refl, sym}
+use mathlib.Core.Path.{_≡_, refl, sym, _∙_}
 use mathlib.Core.Bool.{Bool, true, false, not, _&&_, _||_}
 use mathlib.Core.List.{List, [], _∷_, _++_}
 use Prim.Native.Nat.{ℕ, suc, _≤_, _<_}
@@ -136,6 +136,9 @@ module _ (S : Store) (x : Tx) (L : ℕ → List ℕ) (z : Sized S) (R : Rests S 
     T-rests : Rests T L
     T-rests = took-rests S L z R p t q v W a le
 
+    marked : (n : ℕ) → on (walk (T .heads) (T .next) .seen) n ≡ on (walk (S .heads) (S .next) .seen) n
+    marked = on-same S T L R z T-rests T-sized refl
+
     -- an earlier write has another slot, and stays fit
     same : (n : ℕ) → 0 < getD (S .xmin) n 0 → getD (S .xmin) n 0 ≡ t → (getD (T .xmin) n 0 ≡ getD (S .xmin) n 0) × (getD (T .next) n 0 ≡ getD (S .next) n 0)
     same n u e = let ne : n ≡ p → ⊥ = λ k. omega (arith, rw k at u, W .free) in (getD-set-other (S .xmin) p n t 0 ne, getD-set-other (S .next) p n q 0 ne)
@@ -146,7 +149,7 @@ module _ (S : Store) (x : Tx) (L : ℕ → List ℕ) (z : Sized S) (R : Rests S 
 
     -- so it is fit still
     old-fits : (w : Write) → fitsIn x S w ≡ true → fitsIn x T w ≡ true
-    old-fits = writes-fit S T x L R z T-rests T-sized refl (omega arith) same
+    old-fits = writes-fit S T x (omega arith) same (λ n u q e. marked n ∙ e)
 
     -- and so is the new one
     new-fits : fitsIn x T added ≡ true
@@ -158,7 +161,7 @@ module _ (S : Store) (x : Tx) (L : ℕ → List ℕ) (z : Sized S) (R : Rests S 
           base = le-leb q slots le;
           new = le-leb p slots (omega (arith, W .within, z .xmin));
           taken = rw e (lt-ltb 0 t (txid-positive S L z R t a));
-          off = rw (on-same S T x L R z T-rests T-sized refl (omega arith) same p) (by (on (walk (S .heads) (S .next) .seen) p)
+          off = rw (marked p) (by (on (walk (S .heads) (S .next) .seen) p)
               (λ e. let g = C .found p e in absurd (omega (arith, R .mends .stands .led (g .0) p (g .1) (g .2), W .free)))
               (λ e. rw e));
           mine = rw e (eq-eqb t t refl);

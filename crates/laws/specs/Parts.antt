@@ -13,7 +13,7 @@ use Rattle.rules.specs.Transaction.{writesOf, readsOf, indexReadsOf, savepoints
 use Rattle.rules.specs.Chains.{chainFrom, walk, on}
 use Rattle.rules.specs.Admitted.{finished, chainOk, offOk, repairable, headPostings, restsAt, resting}
 use Rattle.rules.specs.Fit.{countsFit, readFit, writeFit, writesApart, stripesApart, fit}
-use Rattle.rules.specs.Bools.{every-cons, every-none, cons-every}
+use Rattle.rules.specs.Bools.{every-each, every-none, cons-every}
 
 -- slots in their form
 pub record SlotsInForm (S : Store) : Type 0 where
@@ -29,14 +29,8 @@ pub record SlotsInForm (S : Store) : Type 0 where
 pub slots-parts : (S : Store) → slotsInForm S ≡ true → SlotsInForm S
 unfolding slotsInForm
 slots-parts S h =
-    let h0 = every-cons _ _ h in
-    let h1 = every-cons _ _ (h0 .1) in
-    let h2 = every-cons _ _ (h1 .1) in
-    let h3 = every-cons _ _ (h2 .1) in
-    let h4 = every-cons _ _ (h3 .1) in
-    let h5 = every-cons _ _ (h4 .1) in
-    let h6 = every-cons _ _ (h5 .1) in
-    record { first = h0 .0; xmax = h1 .0; next = h2 .0; has = h3 .0; locked = h4 .0; owner = h5 .0; key = h6 .0 }
+    let p = every-each _ h in
+    record { first = p .0; xmax = p .1 .0; next = p .1 .1 .0; has = p .1 .1 .1 .0; locked = p .1 .1 .1 .1 .0; owner = p .1 .1 .1 .1 .1 .0; key = p .1 .1 .1 .1 .1 .1 .0 }
 
 pub parts-slots : (S : Store) → SlotsInForm S → slotsInForm S ≡ true
 unfolding slotsInForm
@@ -57,16 +51,8 @@ pub record Repairable (S : Store) : Type 0 where
 pub repairable-parts : (S : Store) → repairable S ≡ true → Repairable S
 unfolding repairable
 repairable-parts S h =
-    let h0 = every-cons _ _ h in
-    let h1 = every-cons _ _ (h0 .1) in
-    let h2 = every-cons _ _ (h1 .1) in
-    let h3 = every-cons _ _ (h2 .1) in
-    let h4 = every-cons _ _ (h3 .1) in
-    let h5 = every-cons _ _ (h4 .1) in
-    let h6 = every-cons _ _ (h5 .1) in
-    let h7 = every-cons _ _ (h6 .1) in
-    let h8 = every-cons _ _ (h7 .1) in
-    record { started = h0 .0; slots = h1 .0; listed = h2 .0; below = h3 .0; doom = h4 .0; walked = h5 .0; led = h6 .0; versions = h7 .0; off = h8 .0 }
+    let p = every-each _ h in
+    record { started = p .0; slots = p .1 .0; listed = p .1 .1 .0; below = p .1 .1 .1 .0; doom = p .1 .1 .1 .1 .0; walked = p .1 .1 .1 .1 .1 .0; led = p .1 .1 .1 .1 .1 .1 .0; versions = p .1 .1 .1 .1 .1 .1 .1 .0; off = p .1 .1 .1 .1 .1 .1 .1 .1 .0 }
 
 pub parts-repairable : (S : Store) → Repairable S → repairable S ≡ true
 unfolding repairable
@@ -84,13 +70,8 @@ pub record Resting (S : Store) : Type 0 where
 pub resting-parts : (S : Store) → resting S ≡ true → Resting S
 unfolding resting
 resting-parts S h =
-    let h0 = every-cons _ _ h in
-    let h1 = every-cons _ _ (h0 .1) in
-    let h2 = every-cons _ _ (h1 .1) in
-    let h3 = every-cons _ _ (h2 .1) in
-    let h4 = every-cons _ _ (h3 .1) in
-    let h5 = every-cons _ _ (h4 .1) in
-    record { mendable = h0 .0; stripes = h1 .0; partitions = h2 .0; posted = h3 .0; rests = h4 .0; healthy = h5 .0 }
+    let p = every-each _ h in
+    record { mendable = p .0; stripes = p .1 .0; partitions = p .1 .1 .0; posted = p .1 .1 .1 .0; rests = p .1 .1 .1 .1 .0; healthy = p .1 .1 .1 .1 .1 .0 }
 
 pub parts-resting : (S : Store) → Resting S → resting S ≡ true
 unfolding resting
@@ -108,14 +89,8 @@ pub record WriteFit (xmin next seen : List ℕ) (t : ℕ) (w : Write) : Type 0 w
 
 pub write-parts : (xmin next seen : List ℕ) (t : ℕ) (w : Write) → writeFit xmin next seen t w ≡ true → WriteFit xmin next seen t w
 write-parts xmin next seen t w h =
-    let h0 = every-cons _ _ h in
-    let h1 = every-cons _ _ (h0 .1) in
-    let h2 = every-cons _ _ (h1 .1) in
-    let h3 = every-cons _ _ (h2 .1) in
-    let h4 = every-cons _ _ (h3 .1) in
-    let h5 = every-cons _ _ (h4 .1) in
-    let h6 = every-cons _ _ (h5 .1) in
-    record { row = h0 .0; base = h1 .0; new = h2 .0; taken = h3 .0; off = h4 .0; mine = h5 .0; over = h6 .0 }
+    let p = every-each _ h in
+    record { row = p .0; base = p .1 .0; new = p .1 .1 .0; taken = p .1 .1 .1 .0; off = p .1 .1 .1 .1 .0; mine = p .1 .1 .1 .1 .1 .0; over = p .1 .1 .1 .1 .1 .1 .0 }
 
 pub parts-write : (xmin next seen : List ℕ) (t : ℕ) (w : Write) → WriteFit xmin next seen t w → writeFit xmin next seen t w ≡ true
 parts-write xmin next seen t w P = cons-every _ _ (P .row) (cons-every _ _ (P .base) (cons-every _ _ (P .new) (cons-every _ _ (P .taken) (cons-every _ _ (P .off) (cons-every _ _ (P .mine) (cons-every _ _ (P .over) every-none))))))
@@ -135,16 +110,8 @@ pub record Fit (S : Store) (x : Tx) : Type 0 where
 pub fit-parts : (S : Store) (x : Tx) → fit S x ≡ true → Fit S x
 unfolding fit
 fit-parts S x h =
-    let h0 = every-cons _ _ h in
-    let h1 = every-cons _ _ (h0 .1) in
-    let h2 = every-cons _ _ (h1 .1) in
-    let h3 = every-cons _ _ (h2 .1) in
-    let h4 = every-cons _ _ (h3 .1) in
-    let h5 = every-cons _ _ (h4 .1) in
-    let h6 = every-cons _ _ (h5 .1) in
-    let h7 = every-cons _ _ (h6 .1) in
-    let h8 = every-cons _ _ (h7 .1) in
-    record { counts = h0 .0; reads = h1 .0; writes = h2 .0; apart = h3 .0; stripes = h4 .0; savepoints = h5 .0; within = h6 .0; snapshot = h7 .0; present = h8 .0 }
+    let p = every-each _ h in
+    record { counts = p .0; reads = p .1 .0; writes = p .1 .1 .0; apart = p .1 .1 .1 .0; stripes = p .1 .1 .1 .1 .0; savepoints = p .1 .1 .1 .1 .1 .0; within = p .1 .1 .1 .1 .1 .1 .0; snapshot = p .1 .1 .1 .1 .1 .1 .1 .0; present = p .1 .1 .1 .1 .1 .1 .1 .1 .0 }
 
 pub parts-fit : (S : Store) (x : Tx) → Fit S x → fit S x ≡ true
 unfolding fit

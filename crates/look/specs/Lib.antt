@@ -1,8 +1,3 @@
-pub mod Sight
-pub mod Own
-pub mod Chain
-pub mod Found
-pub mod Slots
 pub mod Reads
 pub mod Record
 pub mod Marks

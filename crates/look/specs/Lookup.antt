@@ -9,7 +9,7 @@ use Rattle.rules.specs.Lists.{those}
 use Rattle.rules.specs.Types.{Store, Tx, ReadRecord, Key}
 use Rattle.rules.specs.Store.{valueAt, sameValue}
 use Rattle.rules.specs.Calls.{recordReads, readPtr, matching, candidates}
-use Rattle.look.specs.Found.{readPtrOf}
+use Rattle.sight.specs.Found.{readPtrOf}
 use Rattle.look.specs.Reads.{recordReadOf, record-read}
 
 module _ (heads next xmin : List ℕ) (x : Tx) where

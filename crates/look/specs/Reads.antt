@@ -11,10 +11,10 @@ use Rattle.types.specs.Limits.{readLimit}
 use Rattle.types.specs.Zero.{noRead}
 use Rattle.rules.specs.Lists.{any, pad}
 use Rattle.rules.specs.Types.{Store, Tx, ReadRecord}
-use Rattle.rules.specs.Transaction.{lastOwn, writesOf}
+use Rattle.rules.specs.Transaction.{lastOwn, writesOf, withReads}
 use Rattle.rules.specs.Calls.{recordRead, readPtr}
 use Rattle.view.specs.Pad.{pad-snoc, pad-over, take-clip}
-use Rattle.look.specs.Found.{readPtrOf}
+use Rattle.sight.specs.Found.{readPtrOf}
 use Rattle.look.specs.declared.reads.ReadList.{ReadList}
 
 -- a list of any length
@@ -81,3 +81,11 @@ laid-fits l m holds fits =
     let short = ltb-false readLimit (length m) (sym (ap (λ q. q .over) holds) ∙ fits) in
     let c : l .count ≡ min (length m) readLimit = ap (λ q. q .count) holds in
     (ap (λ q. q .at) holds, omega arith)
+
+-- a transaction with its reads as a list has them
+unfoldable pub readsFrom : ReadList → Tx → Tx
+readsFrom l x = record { txid = x .txid; «snapshot_xmin» = x .«snapshot_xmin»; «snapshot_xmax» = x .«snapshot_xmax»; snapshot = x .snapshot; «snapshot_count» = x .«snapshot_count»; writes = x .writes; «write_count» = x .«write_count»; reads = l .at; «read_count» = l .count; «index_reads» = x .«index_reads»; «index_read_count» = x .«index_read_count»; «index_conflict» = x .«index_conflict»; savepoints = x .savepoints; «savepoint_count» = x .«savepoint_count» }
+
+pub reads-from : (l : ReadList) (m : List ReadRecord) (x : Tx) → l ≡ laid m → l .over ≡ false → readsFrom l x ≡ withReads m x
+unfolding readsFrom
+reads-from l m x holds fits = rw (laid-fits l m holds fits .0, laid-fits l m holds fits .1)

@@ -6,35 +6,38 @@ use Prim.Native.Nat.{ℕ, zero, suc, _<_, min}
 use native.Mathlib.Omega.{arith}
 use lib.ListN.{length, getD, take, length-append}
 use lib.Seq.{take-all}
-use lib.Dec.{ltb}
+use lib.Dec.{eqb, ltb}
 use borrow.Author.Tests.{ne-eqb, lt-ltb, ltb-true, ltb-false}
 use Rattle.types.specs.Limits.{readLimit}
 use Rattle.types.specs.Zero.{noRead}
 use Rattle.rules.specs.Lists.{any, pad}
 use Rattle.rules.specs.Bools.{by, clash}
-use Rattle.rules.specs.Types.{Tx, Write, ReadRecord}
+use Rattle.rules.specs.Types.{Tx, ReadRecord}
 use Rattle.rules.specs.Transaction.{lastOwn, writesOf}
+use Rattle.rules.specs.Calls.{visibleVersion}
 use Rattle.view.specs.Pad.{pad-over, take-pad}
-use Rattle.look.specs.Found.{readPtrOf, read-own}
+use Rattle.sight.specs.Found.{readPtrOf, recordedPtr}
 use Rattle.look.specs.Reads.{laid, ofPtr, recordReadOf}
 use Rattle.look.specs.declared.reads.ReadList.{ReadList}
 
 -- own writes and absent rows are not recorded
-module _ (heads next xmin : List ℕ) (x : Tx) (r : ℕ) (m : List ReadRecord) (own : Write) (last : own ≡ lastOwn r (writesOf x)) where
-  pub record-own : (own .new .0 ≡ 0 → ⊥) → recordReadOf heads next xmin x r m ≡ m
-  unfolding recordReadOf
-  record-own n = rw (← read-own heads next xmin x r own last n, ← last, ne-eqb (own .new .0) 0 n)
-
-  pub record-none : 0 ≡ readPtrOf heads next xmin x r → recordReadOf heads next xmin x r m ≡ m
-  unfolding recordReadOf
-  record-none e = rw (← e)
+module _ (heads next xmin : List ℕ) (x : Tx) (r : ℕ) (m : List ReadRecord) where
+  pub record-none : 0 ≡ recordedPtr heads next xmin x r → recordReadOf heads next xmin x r m ≡ m
+  unfolding recordReadOf readPtrOf recordedPtr
+  record-none e =
+      by (eqb (lastOwn r (writesOf x) .new .0) 0)
+      (λ o. let v : 0 ≡ visibleVersion heads next xmin x r = rw o at e in rw (o, ← v))
+      (λ o. simp o)
 
   -- a version p of t is, once per pointer
-  pub record-once : (p t : ℕ) → own .new .0 ≡ 0 → p ≡ readPtrOf heads next xmin x r → (p ≡ 0 → ⊥) → t ≡ getD xmin p 0
+  pub record-once : (p t : ℕ) → p ≡ recordedPtr heads next xmin x r → (p ≡ 0 → ⊥) → t ≡ getD xmin p 0
       → recordReadOf heads next xmin x r m
       ≡ cond (any (ofPtr p) m) m (m ++ record { row = record { 0 = r }; ptr = record { 0 = p }; xmin = record { 0 = t } } ∷ [])
-  unfolding recordReadOf
-  record-once p t none e n d = rw (← e, ← last, none, ne-eqb p 0 n, d)
+  unfolding recordReadOf readPtrOf recordedPtr
+  record-once p t e n d =
+      by (eqb (lastOwn r (writesOf x) .new .0) 0)
+      (λ o. let v : p ≡ visibleVersion heads next xmin x r = rw o at e in rw (o, ← v, ne-eqb p 0 n, d))
+      (λ o. absurd (n (rw o at e)))
 
 module _ {ℓ} {A : Type ℓ} (f : A → Bool) where
   any-take : (n : ℕ) (m : List A) → any f (take n m) ≡ true → any f m ≡ true

@@ -11,7 +11,7 @@ use Rattle.rules.specs.Lists.{pad}
 use Rattle.rules.specs.Types.{Tx, RowId}
 use Rattle.rules.specs.Calls.{asRow}
 use Rattle.view.specs.Pad.{pad-snoc}
-use Rattle.look.specs.Found.{readPtrOf}
+use Rattle.sight.specs.Found.{readPtrOf}
 use Rattle.look.specs.Lookup.{hasKey, matchingOf}
 use Rattle.look.specs.declared.lookup.RowList.{RowList}
 

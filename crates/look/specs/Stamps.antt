@@ -10,7 +10,7 @@ use Rattle.types.specs.Limits.{indexReadLimit}
 use Rattle.types.specs.Zero.{noIndexRead}
 use Rattle.rules.specs.Lists.{any, pad}
 use Rattle.rules.specs.Types.{Tx, IndexRead}
-use Rattle.rules.specs.Transaction.{sees}
+use Rattle.rules.specs.Transaction.{sees, withIndexReads}
 use Rattle.rules.specs.Calls.{recordStamp}
 use Rattle.view.specs.Pad.{pad-snoc, pad-over, take-clip}
 use Rattle.look.specs.declared.stamps.IndexReadList.{IndexReadList}
@@ -68,3 +68,11 @@ module _ (l : IndexReadList) (m : List IndexRead) (i t : ℕ) (b : Bool) (holds 
       let a : l .at ≡ pad indexReadLimit noIndexRead (m ++ r ∷ []) = ap (λ q. q .at) holds ∙ sym (pad-over indexReadLimit noIndexRead m (r ∷ []) (omega arith)) in
       let n : l .count + 1 ≡ length (m ++ r ∷ []) = omega arith in
       rw (← test, e) (λ j. record { at = a j; count = n j })
+
+-- a transaction with its index reads as a list has them, its index_conflict as given
+unfoldable pub indexReadsFrom : IndexReadList → Bool → Tx → Tx
+indexReadsFrom l conflict x = record { txid = x .txid; «snapshot_xmin» = x .«snapshot_xmin»; «snapshot_xmax» = x .«snapshot_xmax»; snapshot = x .snapshot; «snapshot_count» = x .«snapshot_count»; writes = x .writes; «write_count» = x .«write_count»; reads = x .reads; «read_count» = x .«read_count»; «index_reads» = l .at; «index_read_count» = l .count; «index_conflict» = conflict; savepoints = x .savepoints; «savepoint_count» = x .«savepoint_count» }
+
+pub index-reads-from : (l : IndexReadList) (m : List IndexRead) (conflict : Bool) (x : Tx) → l ≡ indexReadList m → indexReadsFrom l conflict x ≡ withIndexReads m conflict x
+unfolding indexReadsFrom indexReadList
+index-reads-from l m conflict x holds = rw (ap (λ q. q .at) holds, ap (λ q. q .count) holds)

@@ -1,24 +1,21 @@
 // The transaction with one of its lists changed.
 
 ghost use mathlib.Core.Path.{_≡_};
-ghost use mathlib.Core.Bool.{false};
-ghost use mathlib.Core.List.{List, _∷_, [], _++_};
+ghost use mathlib.Core.List.{_∷_, [], _++_};
 ghost use Rattle.types.specs.Zero.{onlyTxid};
-ghost use Rattle.rules.specs.Transaction.{writesOf, withWrites, withReads, withIndexReads};
-ghost use Rattle.look.specs.Reads.{laid};
-ghost use Rattle.look.specs.Stamps.{indexReadList};
+ghost use Rattle.rules.specs.Transaction.{writesOf, withWrites};
+ghost use Rattle.look.specs.Reads.{readsFrom};
+ghost use Rattle.look.specs.Stamps.{indexReadsFrom};
 use super::reads::ReadList;
 use super::stamps::IndexReadList;
-use types::IndexRead;
-use types::ReadRecord;
 use types::Tx;
 use types::Txid;
 use types::Write;
 use view::lent::clipped;
 
-// Its reads those of a list that fits.
+// Its reads those of a list, as many as it has places for.
 pub fn with_reads(x: Tx, l: ReadList) -> Tx
-    ensures { λ y. ⌜ ((m : List ReadRecord) → l ≡ laid m → l .over ≡ false → y ≡ withReads m x) ⌝ }
+    ensures { λ y. ⌜ y ≡ readsFrom l x ⌝ }
 {
     let mut y = x;
     let at = l.at;
@@ -29,7 +26,7 @@ pub fn with_reads(x: Tx, l: ReadList) -> Tx
 
 // Its index reads those of a list, its index_conflict as given.
 pub fn with_index_reads(x: Tx, l: IndexReadList, conflict: bool) -> Tx
-    ensures { λ y. ⌜ ((m : List IndexRead) → l ≡ indexReadList m → y ≡ withIndexReads m conflict x) ⌝ }
+    ensures { λ y. ⌜ y ≡ indexReadsFrom l conflict x ⌝ }
 {
     let mut y = x;
     let at = l.at;

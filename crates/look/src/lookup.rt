@@ -7,10 +7,10 @@ ghost use Rattle.look.specs.Marks.{markedRows};
 ghost use Rattle.look.specs.Reads.{laid};
 ghost use Rattle.look.specs.Rows.{rowList};
 ghost use Rattle.look.specs.Lookup.{recordReadsOf, hasKey, matchingOf};
-use super::found::read_ptr;
 use super::reads::ReadList;
 use super::reads::reads_of;
 use super::reads::record_read;
+use sight::found::read_ptr;
 use types::RowId;
 use types::SlotPtr;
 use types::Tx;
@@ -28,11 +28,11 @@ pub fn record_marked<'a>(
     ensures { λ l. ⌜ l ≡ laid (recordReadsOf (atRows (now (heads .entry))) (atPlaces (now (next .entry))) (atPlaces (now (xmin .entry))) x (markedRows (flagsAtRows (now (marks .entry)))) (readsOf x)) ⌝ }
 {
     let mut l = reads_of(x);
-    let mut r: usize = 0;
-    while r < RowId::ROWS {
-        let marked = marks[r];
-        let row = RowId(r);
-        r += 1;
+    let mut i: usize = 0;
+    while i < RowId::ROWS {
+        let marked = marks[i];
+        let row = RowId(i);
+        i += 1;
         if marked {
             l = record_read(heads, next, xmin, x, row, l);
         }

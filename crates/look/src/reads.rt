@@ -7,8 +7,7 @@ ghost use Rattle.rules.specs.Lists.{any};
 ghost use Rattle.rules.specs.Transaction.{readsOf};
 ghost use Rattle.view.specs.Lent.{atRows, atPlaces};
 ghost use Rattle.look.specs.Reads.{laid, ofPtr, recordReadOf};
-use super::chain::visible_version;
-use super::own::last_own;
+use sight::found::recorded;
 use types::ReadRecord;
 use types::RowId;
 use types::SlotPtr;
@@ -24,7 +23,7 @@ pub struct ReadList {
 }
 
 // The transaction's reads.
-pub fn reads_of(x: Tx) -> ReadList
+pub(crate) fn reads_of(x: Tx) -> ReadList
     ensures { λ l. ⌜ l ≡ laid (readsOf x) ⌝ }
 {
     let mut at = [ReadRecord::NONE; Tx::READS];
@@ -73,7 +72,7 @@ fn has_read(l: ReadList, p: SlotPtr) -> bool
 }
 
 // Records a found version's pointer and xmin once per pointer; own writes and absent rows are not recorded.
-pub fn record_read<'a>(
+pub(crate) fn record_read<'a>(
     heads: &'a [u32; RowId::ROWS],
     next: &'a [u32; SlotPtr::PLACES],
     xmin: &'a [u64; SlotPtr::PLACES],
@@ -83,11 +82,7 @@ pub fn record_read<'a>(
 ) -> ReadList
     ensures { λ q. ⌜ ((m : List ReadRecord) → l ≡ laid m → q ≡ laid (recordReadOf (atRows (now (heads .entry))) (atPlaces (now (next .entry))) (atPlaces (now (xmin .entry))) x (r .0) m)) ⌝ }
 {
-    let own = last_own(x, r);
-    if own.new.0 != 0 {
-        return l;
-    }
-    let p = visible_version(heads, next, xmin, x, r);
+    let p = recorded(heads, next, xmin, x, r);
     if p.0 == 0 {
         return l;
     }

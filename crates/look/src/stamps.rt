@@ -8,7 +8,7 @@ ghost use Rattle.rules.specs.Transaction.{indexReadsOf};
 ghost use Rattle.rules.specs.Calls.{recordStamp};
 ghost use Rattle.view.specs.Lent.{atStripes};
 ghost use Rattle.look.specs.Stamps.{indexReadList, ofStripe, indexConflict};
-use super::sight::sees;
+use sight::sees;
 use types::IndexRead;
 use types::Store;
 use types::Tx;

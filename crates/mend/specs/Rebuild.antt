@@ -12,7 +12,7 @@ use Rattle.rules.specs.Bools.{by}
 use Rattle.rules.specs.Lists.{pad, into}
 use Rattle.rules.specs.Store.{posting}
 use Rattle.rules.specs.Admitted.{headPostings}
-use Rattle.journal.specs.Packed.{Packed}
+use Rattle.packed.specs.Packed.{Packed}
 use Rattle.view.specs.Lent.{array, atRows, array-length, array-at, array-end}
 use Rattle.view.specs.Pad.{take-pad}
 

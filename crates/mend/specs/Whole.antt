@@ -10,7 +10,7 @@ use Rattle.rules.specs.Lists.{keep}
 use Rattle.rules.specs.Chains.{Walk, walk}
 use Rattle.rules.specs.Admitted.{finished, headPostings, repairable}
 use Rattle.rules.specs.Recovery.{trimHead, clear, recovered, recover}
-use Rattle.journal.specs.Packed.{Packed}
+use Rattle.packed.specs.Packed.{Packed}
 use Rattle.view.specs.Lent.{atRows, atPlaces, array-same}
 
 -- a store with each part as recovery makes it is the recovered store

@@ -9,11 +9,10 @@ mod reads;
 mod rebuild;
 mod trim;
 
-use admit::store::repairable;
-use admit::walk::walk_all;
 use clear::clear_heads;
 use keep::keep_all;
 use rebuild::rebuild;
+use resting::repair::repairable;
 use trim::trim_heads;
 use types::Fate;
 use types::Mended;
@@ -22,6 +21,7 @@ use types::RowId;
 use types::SlotPtr;
 use types::Store;
 use types::Txid;
+use view::walk::walk_all;
 
 // What recovery makes of a store.
 fn recovered(s: Store) -> Store

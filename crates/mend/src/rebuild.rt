@@ -2,11 +2,10 @@
 
 ghost use Rattle.types.specs.Limits.{postingLimit};
 ghost use Rattle.rules.specs.Admitted.{headPostings};
-ghost use Rattle.journal.specs.Packed.{Packed};
+ghost use Rattle.packed.specs.Packed.{Packed};
 ghost use Rattle.view.specs.Lent.{atRows};
 use super::reads::flag_at;
 use super::reads::word_at;
-use journal::packed;
 use types::RowId;
 use types::Store;
 use view::lent::place;

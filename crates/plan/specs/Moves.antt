@@ -9,7 +9,7 @@ use lib.ListN.{length, getD, set, take, replicate, length-append, length-take, l
 use lib.Seq.{take-suc, take-all, getD-take}
 use Rattle.types.specs.Limits.{rows, stripes, writeLimit}
 use Rattle.types.specs.Zero.{noWrite}
-use Rattle.rules.specs.Lists.{all, those, flat, pad}
+use Rattle.rules.specs.Lists.{those, flat, pad}
 use Rattle.rules.specs.Bools.{by}
 use Rattle.rules.specs.Types.{Write, Value, Absent, Key}
 use Rattle.rules.specs.Store.{valueAt, sameValue}
@@ -19,7 +19,7 @@ use Rattle.plan.specs.declared.moves.Codes.{Codes}
 use Rattle.plan.specs.declared.moves.Moves.{Moves}
 use Rattle.view.specs.Few.{those-few}
 use Rattle.view.specs.Marks.{markAll, mark-append}
-use Rattle.plan.specs.Plain.{plain, low, low-same}
+use Rattle.plan.specs.Plain.{low}
 
 -- postings laid out in an array, with their number
 unfoldable pub codesOf : List ℕ → Codes
@@ -138,8 +138,9 @@ module _ (key : List ℕ) (has : List Bool) (at : List Write) (count : ℕ) wher
     next-new e = next ∙ rw e
 
   -- all of them
-  pub changes-all : (i : ℕ) → min count (length at) ≤ i → all plain (take count at) ≡ true → changesTo i ≡ indexChanges key has (take count at)
+  pub changes-all : (i : ℕ) → min count (length at) ≤ i → changesTo i ≡ indexChanges key has (map low (take count at))
   unfolding changesTo
-  changes-all i h p =
+  changes-all i h =
       let some = length-take count at in
-      rw (low-same (take count at) p, take-all i (take count at) (omega arith))
+      let long = length-map (take count at) low in
+      rw (take-all i (map low (take count at)) (omega arith))

@@ -19,7 +19,7 @@ use Rattle.rules.specs.Chains.{walk}
 use Rattle.rules.specs.Puts.{ownSlots}
 use Rattle.rules.specs.Changes.{recycled}
 use Rattle.view.specs.Lent.{atPlaces, array-cons, array-end}
-use Rattle.look.specs.Slots.{ownSlot, own-slots}
+use Rattle.sight.specs.Slots.{ownSlot, own-slots}
 use Rattle.view.specs.Marks.{markAll, markedFrom, mark-length, marks-in-order}
 
 -- no slot is marked; shut, since a goal would show all its flags

@@ -10,7 +10,7 @@ use lib.Seq.{take-all}
 use lib.Dec.{eqb, ltb}
 use Rattle.types.specs.Limits.{places, writeLimit}
 use Rattle.types.specs.Zero.{noWrite}
-use Rattle.rules.specs.Lists.{all, pad}
+use Rattle.rules.specs.Lists.{pad}
 use Rattle.rules.specs.Types.{Store, Tx, Write, Schedule}
 use Rattle.rules.specs.Transaction.{indexReadsOf, finals}
 use Rattle.rules.specs.Chains.{walk}
@@ -26,7 +26,7 @@ use Rattle.plan.specs.declared.moves.Moves.{Moves}
 use Rattle.plan.specs.declared.run.Plan.{Plan}
 use Rattle.plan.specs.declared.run.Struck.{Struck}
 use Rattle.view.specs.Marks.{markAll}
-use Rattle.plan.specs.Plain.{plain, finals-plain}
+use Rattle.plan.specs.Plain.{low, low-same, finals-plain}
 use Rattle.plan.specs.Moves.{codesOf, changedMarks, movesOf}
 use Rattle.plan.specs.Guards.{stripeRead, guardedMarks, partitionMarks}
 use Rattle.plan.specs.Own.{ownMarks, unmarkAll, newOf, recycledMarks}
@@ -155,19 +155,38 @@ module _ {S : Store} {x : Tx} {logged : Bool} {plan : Schedule} {p : Plan} {s : 
       adds-then (limited g 23 _ l (publication x) rows-room (rw i at e) a) (adds-then (limited g 24 _ m (recycling S x) free-room (rw f at q) b)
       (adds-then (rw txid-is at c) (limited g 26 _ k (stamping S x) stamp-room (rw t at w) d)))
 
--- the parts as they are computed, from the arrays that a commit reads, make its plan
-module _ (S : Store) (x : Tx) (key xmin seen : List ℕ) (has : List Bool) (at : List Write) (size : ℕ) where
-  pub plan-is : {m : Moves} {guarded partitioned own recycled : List Bool}
-      → (all plain (take size at) ≡ true → m ≡ movesOf (indexChanges key has (take size at))) → guarded ≡ markAll (map stripeRead (indexReadsOf x)) (m .stripes) → partitioned ≡ partitionMarks x
+-- the plan from the arrays that a commit reads, whatever they hold
+unfoldable pub planFrom : List ℕ → List Bool → List ℕ → List ℕ → Tx → List Write → ℕ → Plan
+planFrom key has xmin seen x at size =
+    let cs = indexChanges key has (map low (take size at)) in
+    record {
+      txid = x .txid .0;
+      at = at;
+      count = size;
+      into = codesOf (destinations cs);
+      out = codesOf (sources cs);
+      changed = changedMarks cs;
+      stripes = guardedMarks cs x;
+      partitions = partitionMarks x;
+      own = ownMarks xmin seen (x .txid .0);
+      recycled = unmarkAll (map newOf (take size at)) (ownMarks xmin seen (x .txid .0));
+    }
+
+module _ (x : Tx) (key xmin seen : List ℕ) (has : List Bool) (at : List Write) (size : ℕ) where
+  -- part by part, as code computes it
+  pub plan-from : {m : Moves} {guarded partitioned own recycled : List Bool}
+      → m ≡ movesOf (indexChanges key has (map low (take size at))) → guarded ≡ markAll (map stripeRead (indexReadsOf x)) (m .stripes) → partitioned ≡ partitionMarks x
       → own ≡ ownMarks xmin seen (x .txid .0) → recycled ≡ unmarkAll (map newOf (take size at)) own
+      → _≡_ {A = Plan} (record { txid = x .txid .0; at = at; count = size; into = m .into; out = m .out; changed = m .stripes; stripes = guarded; partitions = partitioned; own = own; recycled = recycled }) (planFrom key has xmin seen x at size)
+  unfolding planFrom movesOf guardedMarks
+  plan-from mv g p o r =
+      λ i. record { txid = x .txid .0; at = at; count = size; into = mv i .into; out = mv i .out; changed = mv i .stripes; stripes = (g ∙ ap (λ q. markAll (map stripeRead (indexReadsOf x)) (q .stripes)) mv) i; partitions = p i; own = o i; recycled = (r ∙ ap (unmarkAll (map newOf (take size at))) o) i }
+
+  -- of a fit transaction, from the arrays of its store and its final writes, it is the plan of its commit
+  pub plan-is : (S : Store)
       → key ≡ S .key → has ≡ S .has → xmin ≡ S .xmin → seen ≡ walk (S .heads) (S .next) .seen → at ≡ pad writeLimit noWrite (finals x) → size ≡ length (finals x) → fit S x ≡ true
-      → _≡_ {A = Plan} (record { txid = x .txid .0; at = at; count = size; into = m .into; out = m .out; changed = m .stripes; stripes = guarded; partitions = partitioned; own = own; recycled = recycled }) (planOf S x)
-  unfolding planOf changes movesOf guardedMarks recycledMarks
-  plan-is {m} {guarded} {partitioned} {own} {recycled} moved g p o r k h t w a n ok =
+      → planFrom key has xmin seen x at size ≡ planOf S x
+  unfolding planFrom planOf changes recycledMarks
+  plan-is S k h t w a n ok =
       let ws : take size at ≡ finals x = rw (a, n) (finals-taken S x ok) in
-      let mv : m ≡ movesOf (changes S x) = moved (rw ws (finals-plain S x ok)) ∙ rw (ws, k, h) in
-      let st : m .stripes ≡ changedMarks (changes S x) = ap (λ q. q .stripes) mv in
-      let ow : own ≡ ownMarks (S .xmin) (walk (S .heads) (S .next) .seen) (x .txid .0) = o ∙ rw (t, w) in
-      let gd : guarded ≡ guardedMarks (changes S x) x = g ∙ rw st in
-      let re : recycled ≡ recycledMarks (S .xmin) (walk (S .heads) (S .next) .seen) x = r ∙ rw (ws, ow) in
-      λ i. record { txid = x .txid .0; at = a i; count = n i; into = ap (λ q. q .into) mv i; out = ap (λ q. q .out) mv i; changed = st i; stripes = gd i; partitions = p i; own = ow i; recycled = re i }
+      rw (ws, low-same (finals x) (finals-plain S x ok), k, h, t, w, a, n)

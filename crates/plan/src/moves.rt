@@ -1,19 +1,17 @@
 // The index changes of the final writes: the postings that go in, those that go out, and the stripes that change.
 
 ghost use mathlib.Core.Path.{_≡_};
-ghost use mathlib.Core.Bool.{true};
-ghost use mathlib.Core.List.{List, [], _∷_, _++_};
+ghost use mathlib.Core.List.{List, [], _∷_, _++_, map};
 ghost use Prim.Native.Nat.{ℕ, _<_, _%_};
 ghost use lib.ListN.{length, take};
 ghost use Rattle.types.specs.Limits.{rows, writeLimit};
-ghost use Rattle.rules.specs.Lists.{all};
 ghost use Rattle.rules.specs.Store.{sameValue};
 ghost use Rattle.rules.specs.Changes.{Change, indexChanges, postingIn, stripesIn};
 ghost use Rattle.view.specs.Lent.{atPlaces, flagsAtPlaces};
 ghost use Rattle.view.specs.Marks.{markAll};
-ghost use Rattle.plan.specs.Plain.{plain};
+ghost use Rattle.plan.specs.Plain.{low};
 ghost use Rattle.plan.specs.Moves.{codesOf, movesOf, change};
-use look::slots;
+use sight::slots;
 use types::RowId;
 use types::SlotPtr;
 use types::Store;
@@ -107,14 +105,14 @@ fn with_change(m: Moves, row: RowId, before: Value, after: Value) -> Moves
     }
 }
 
-// The changes of the first `count` writes: each whose base and new slot differ in value.
+// The changes of the first `count` writes, their rows brought down: each whose base and new slot differ in value.
 pub fn index_changes<'a>(
     key: &'a [u32; SlotPtr::PLACES],
     has: &'a [bool; SlotPtr::PLACES],
     at: [Write; Tx::WRITES],
     count: usize,
 ) -> Moves
-    ensures { λ r. ⌜ (all plain (take count at) ≡ true → r ≡ movesOf (indexChanges (atPlaces (now (key .entry))) (flagsAtPlaces (now (has .entry))) (take count at))) ⌝ }
+    ensures { λ r. ⌜ r ≡ movesOf (indexChanges (atPlaces (now (key .entry))) (flagsAtPlaces (now (has .entry))) (map low (take count at))) ⌝ }
 {
     let end = clipped(count, Tx::WRITES);
     let none = Codes {

@@ -5,7 +5,7 @@ ghost use mathlib.Core.List.{map};
 ghost use lib.ListN.{take};
 ghost use Rattle.view.specs.Lent.{atPlaces};
 ghost use Rattle.plan.specs.Own.{ownMarks, unmarkAll, newOf};
-use look::slots;
+use sight::slots;
 use types::SlotPtr;
 use types::Tx;
 use types::Txid;

@@ -5,11 +5,8 @@ ghost use mathlib.Core.Bool.{Bool, true, false, _||_};
 ghost use mathlib.Core.List.{[], _∷_};
 ghost use Prim.Native.Nat.{_≤_};
 ghost use lib.ListN.{length, getD, take};
-ghost use Rattle.types.specs.Limits.{places, writeLimit};
-ghost use Rattle.types.specs.Zero.{noWrite};
-ghost use Rattle.rules.specs.Lists.{pad};
+ghost use Rattle.types.specs.Limits.{places};
 ghost use Rattle.rules.specs.Types.{Store, Tx, Schedule};
-ghost use Rattle.rules.specs.Transaction.{finals};
 ghost use Rattle.rules.specs.Chains.{walk};
 ghost use Rattle.rules.specs.Fit.{fit};
 ghost use Rattle.rules.specs.Puts.{putDrop};
@@ -21,7 +18,7 @@ ghost use Rattle.plan.specs.Moves.{codesOf};
 ghost use Rattle.plan.specs.Guards.{guardedMarks, partitionMarks};
 ghost use Rattle.plan.specs.Own.{ownMarks};
 ghost use Rattle.plan.specs.Parts.{after, aborters, poisonsOf, taken, passed, undoes, drops, lets, dies, putsAt};
-ghost use Rattle.plan.specs.Planned.{planOf, Planned, limitAt, struckOf};
+ghost use Rattle.plan.specs.Planned.{planFrom, Planned, limitAt, struckOf};
 use crate::blocks;
 use crate::guards;
 use crate::moves;
@@ -75,7 +72,7 @@ pub fn plan_of<'a>(
     at: [Write; Tx::WRITES],
     count: usize,
 ) -> Plan
-    ensures { λ p. ⌜ ((S : Store) → atPlaces (now (key .entry)) ≡ S .key → flagsAtPlaces (now (has .entry)) ≡ S .has → atPlaces (now (xmin .entry)) ≡ S .xmin → atPlaces (now (seen .entry)) ≡ walk (S .heads) (S .next) .seen → at ≡ pad writeLimit noWrite (finals x) → count ≡ length (finals x) → fit S x ≡ true → p ≡ planOf S x) ⌝ }
+    ensures { λ p. ⌜ p ≡ planFrom (atPlaces (now (key .entry))) (flagsAtPlaces (now (has .entry))) (atPlaces (now (xmin .entry))) (atPlaces (now (seen .entry))) x at count ⌝ }
 {
     let m = moves::index_changes(key, has, at, count);
     let into = m.into;

@@ -58,6 +58,16 @@ unfolding every
 every-cons true bs e = (refl, e)
 every-cons false bs e = clash {b = false} e refl
 
+-- .. all of them at once
+abbrev pub Each : List Bool → Type 0
+Each [] = Unit
+Each (b ∷ bs) = (b ≡ true) × Each bs
+
+pub every-each : (bs : List Bool) → every bs ≡ true → Each bs
+every-each [] e = tt
+every-each (b ∷ bs) e = let h = every-cons b bs e in (h .0, every-each bs (h .1))
+
+-- .. and back
 pub every-none : every [] ≡ true
 unfolding every
 every-none = refl

@@ -1,6 +1,6 @@
 -- The steps as a row of gates: the first gate whose test holds ends the run, with all the stores made up to there. This is the form
 -- that code follows.
-use mathlib.Core.Path.{_≡_, _∙_}
+use mathlib.Core.Path.{_≡_}
 use mathlib.Core.Bool.{Bool, true, false, not, cond, _&&_, _||_}
 use mathlib.Core.List.{List, [], _∷_, _++_, append-assoc, append-nil}
 use Prim.Native.Nat.{ℕ, suc, _+_}

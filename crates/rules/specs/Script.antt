@@ -1,6 +1,6 @@
 -- "Replay" from bytes to bytes: the script's lines taken apart, and the answers written.
-use mathlib.Core.Bool.{Bool, true, false, not, cond, _&&_, _||_}
-use mathlib.Core.List.{List, [], _∷_, _++_, map}
+use mathlib.Core.Bool.{Bool, true, false, not, cond, _&&_}
+use mathlib.Core.List.{List, [], _∷_, map}
 use Prim.Native.Nat.{ℕ, zero, suc, _+_, _-_, _*_, _/_, _%_}
 use lib.Dec.{eqb, ltb, leb}
 use Rattle.types.specs.Limits.{keyEnd, placeLimit}

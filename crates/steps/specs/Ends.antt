@@ -18,7 +18,7 @@ use Rattle.rules.specs.Faults.{F, P, X, Q, faultsOf, faultAt}
 use Rattle.rules.specs.Commit.{End, strikes, abortOrPoison, rollback, Run, committed, runOf}
 use Rattle.rules.specs.Gates.{gates, clean}
 use Rattle.steps.specs.declared.ends.Ending.{Ending}
-use Rattle.steps.specs.Faults.{letterAt}
+use Rattle.asks.specs.Faults.{letterAt}
 use Rattle.steps.specs.Stops.{cleanGate, hits, gateOf, run-at}
 use Rattle.steps.specs.Answers.{endWith}
 

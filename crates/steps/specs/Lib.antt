@@ -1,6 +1,3 @@
-pub mod Faults
-pub mod Conflicts
-pub mod Finals
 pub mod Stops
 pub mod Answers
 pub mod Ends

@@ -15,10 +15,10 @@ use Rattle.rules.specs.Tests.{indexReadConflict, rowLockConflict, serialization
 use Rattle.rules.specs.Commit.{strikes, Run, runOf}
 use Rattle.rules.specs.Gates.{Gate, first, gates, clean, run-gates}
 use Rattle.types.specs.Limits.{rows, places, stripes, activeLimit}
-use Rattle.steps.specs.declared.faults.Letters.{Letters}
+use Rattle.asks.specs.declared.faults.Letters.{Letters}
 use Rattle.view.specs.Lent.{atRows, atPlaces, flagsAtPlaces, atActive, atStripes, array-same}
-use Rattle.steps.specs.Conflicts.{rowLockConflictOf, row-lock-of}
-use Rattle.steps.specs.Faults.{letters, letterAt, letters-say}
+use Rattle.asks.specs.Conflicts.{rowLockConflictOf, row-lock-of}
+use Rattle.asks.specs.Faults.{letters, letterAt, letters-say}
 
 -- the place of the first test that holds; the number of tests if none does
 abbrev pub firstTrue : List Bool → ℕ

@@ -13,9 +13,9 @@ use Rattle.rules.specs.Puts.{applyAll}
 use Rattle.rules.specs.Commit.{End, Run, runOf}
 use Rattle.rules.specs.Answer.{uncut}
 use Rattle.rules.specs.Gates.{gates, clean}
-use Rattle.steps.specs.declared.faults.Letters.{Letters}
+use Rattle.asks.specs.declared.faults.Letters.{Letters}
 use Rattle.steps.specs.declared.ends.Ending.{Ending}
-use Rattle.steps.specs.Faults.{letters, letterAt, letters-say}
+use Rattle.asks.specs.Faults.{letters, letterAt, letters-say}
 use Rattle.steps.specs.Stops.{cleanGate, letterIn, gateOf, run-at}
 use Rattle.steps.specs.Answers.{endWith, recordIf, record-if, eventsBy, events-by}
 use Rattle.steps.specs.Ends.{gateNumbers, gatePassed, gateLeft, endingFor, txFor, endAt, run-end, run-passed, done-at}

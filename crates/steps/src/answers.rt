@@ -1,28 +1,16 @@
 // The record and the events that commit answers.
 
 ghost use mathlib.Core.Path.{_≡_};
-ghost use Rattle.rules.specs.Answer.{noRecord, noEvents};
 ghost use Rattle.steps.specs.Answers.{recordIf, eventsBy};
 use super::ends::Ending;
-use super::finals::final_writes;
 use super::logic::both;
 use super::logic::either;
+use asks::finals::final_writes;
 use types::Events;
 use types::Record;
-use types::Refusal;
 use types::Tx;
 use types::Txid;
 use types::Write;
-
-pub fn no_record() -> Record
-    ensures { λ r. ⌜ r ≡ noRecord ⌝ }
-{
-    Record {
-        txid: Txid::NONE,
-        writes: [Write::NONE; Tx::WRITES],
-        count: 0,
-    }
-}
 
 // The record is zero unless the commit is done: then it names the transaction and its final writes.
 pub fn record_of(done: bool, x: Tx) -> Record
@@ -38,7 +26,11 @@ pub fn record_of(done: bool, x: Tx) -> Record
             count: finals.count,
         }
     } else {
-        no_record()
+        Record {
+            txid: Txid::NONE,
+            writes: [Write::NONE; Tx::WRITES],
+            count: 0,
+        }
     }
 }
 
@@ -76,18 +68,4 @@ pub fn events_of(logged: bool, bound: bool, writing: bool, passed: usize, end: E
         stamped: 22 <= passed,
         poisoned: end.poisoned,
     }
-}
-
-// Zero on 1, 2, 3 and 18.
-pub fn no_events() -> Events
-    ensures { λ r. ⌜ r ≡ noEvents ⌝ }
-{
-    let end = Ending {
-        refusal: Refusal::Done,
-        poisoned: false,
-        cleanup: false,
-        undone: false,
-        dropped: false,
-    };
-    events_of(false, false, false, 0, end)
 }

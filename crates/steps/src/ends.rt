@@ -9,12 +9,12 @@ ghost use Rattle.rules.specs.Faults.{P, X, Q};
 ghost use Rattle.types.specs.Zero.{onlyTxid};
 ghost use Rattle.steps.specs.Stops.{hits, letterIn};
 ghost use Rattle.steps.specs.Ends.{gateNumbers, gatePassed, gateLeft, stayEnding, abortEnding, insertEnding, callbackEnding, spoilEnding, abortFails, rollbackFails, endingFor, txFor};
-use super::faults::Letters;
 use super::gates::CLEAN;
 use super::left::emptied;
 use super::left::no_accesses;
 use super::left::no_writes;
 use super::logic::either;
+use asks::faults::Letters;
 use look::changed::only_txid;
 use types::Fate;
 use types::Refusal;
@@ -129,7 +129,7 @@ const LEFT: [u8; ENDS] = [
     4,
 ];
 
-pub fn number_at(gate: usize) -> u8
+fn number_at(gate: usize) -> u8
     ensures { λ n. ⌜ n ≡ getD gateNumbers gate 0 ⌝ }
 {
     if gate < ENDS { NUMBERS[gate] } else { 0 }

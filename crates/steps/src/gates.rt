@@ -5,9 +5,9 @@ ghost use mathlib.Core.Bool.{not, _&&_, _||_};
 ghost use mathlib.Core.List.{[], _∷_};
 ghost use Rattle.rules.specs.Faults.{F, B, P, X, Q};
 ghost use Rattle.steps.specs.Stops.{cleanGate, gateFrom, hits, letterIn, endsCallback};
-use super::faults::Letters;
 use super::struck::first_of_two;
 use super::struck::gate_if;
+use asks::faults::Letters;
 
 pub const CHANGES_FAILED: usize = 0;
 
@@ -67,34 +67,34 @@ pub const STAMP_FAILED: usize = 26;
 pub const CLEAN: usize = 27;
 
 // Step 1: that the transaction is open was tried before the steps.
-pub fn ensure_open() -> usize
+pub(crate) fn ensure_open() -> usize
     ensures { λ g. ⌜ g ≡ cleanGate ⌝ }
 {
     CLEAN
 }
 
 // Step 2 has no fault.
-pub fn final_write_indices() -> usize
+pub(crate) fn final_write_indices() -> usize
     ensures { λ g. ⌜ g ≡ cleanGate ⌝ }
 {
     CLEAN
 }
 
 // Steps 3 and 4.
-pub fn index_changes(l: Letters) -> usize
+pub(crate) fn index_changes(l: Letters) -> usize
     ensures { λ g. ⌜ g ≡ gateFrom 0 (hits (letterIn l) 3 F ∷ []) ⌝ }
 {
     gate_if(l.at[3] == b'F', CHANGES_FAILED)
 }
 
-pub fn index_lock_keys(l: Letters) -> usize
+pub(crate) fn index_lock_keys(l: Letters) -> usize
     ensures { λ g. ⌜ g ≡ gateFrom 1 (hits (letterIn l) 4 F ∷ []) ⌝ }
 {
     gate_if(l.at[4] == b'F', LOCK_KEYS_FAILED)
 }
 
 // Steps 5 and 6, logged only.
-pub fn prepare_commit_record(l: Letters, logged: bool) -> usize
+pub(crate) fn prepare_commit_record(l: Letters, logged: bool) -> usize
     ensures { λ g. ⌜ g ≡ gateFrom 2 ((logged && hits (letterIn l) 5 F) ∷ []) ⌝ }
 {
     if logged {
@@ -104,7 +104,7 @@ pub fn prepare_commit_record(l: Letters, logged: bool) -> usize
     }
 }
 
-pub fn run_prepare(l: Letters, logged: bool) -> usize
+pub(crate) fn run_prepare(l: Letters, logged: bool) -> usize
     ensures { λ g. ⌜ g ≡ gateFrom 3 ((logged && hits (letterIn l) 6 F) ∷ (logged && hits (letterIn l) 6 P) ∷ []) ⌝ }
 {
     if logged {
@@ -115,20 +115,25 @@ pub fn run_prepare(l: Letters, logged: bool) -> usize
 }
 
 // Steps 7 and 8 strike before any guard is taken.
-pub fn acquire_index_locks(l: Letters) -> usize
+pub(crate) fn acquire_index_locks(l: Letters) -> usize
     ensures { λ g. ⌜ g ≡ gateFrom 5 (hits (letterIn l) 7 F ∷ hits (letterIn l) 7 B ∷ []) ⌝ }
 {
     first_of_two(l.at[7] == b'F', l.at[7] == b'B', INDEX_GUARDS_FAILED)
 }
 
-pub fn acquire_partition_locks(l: Letters) -> usize
+pub(crate) fn acquire_partition_locks(l: Letters) -> usize
     ensures { λ g. ⌜ g ≡ gateFrom 7 (hits (letterIn l) 8 F ∷ hits (letterIn l) 8 B ∷ []) ⌝ }
 {
     first_of_two(l.at[8] == b'F', l.at[8] == b'B', PARTITION_GUARDS_FAILED)
 }
 
 // Step 9, unlogged with writes only.
-pub fn ensure_unlogged_write_allowed(l: Letters, logged: bool, writing: bool, bound: bool) -> usize
+pub(crate) fn ensure_unlogged_write_allowed(
+    l: Letters,
+    logged: bool,
+    writing: bool,
+    bound: bool,
+) -> usize
     ensures { λ g. ⌜ g ≡ gateFrom 9 (((not logged && writing) && hits (letterIn l) 9 F) ∷ ((not logged && writing) && bound) ∷ []) ⌝ }
 {
     if logged {
@@ -142,7 +147,7 @@ pub fn ensure_unlogged_write_allowed(l: Letters, logged: bool, writing: bool, bo
 }
 
 // Step 10: the fault strikes before the store is looked at.
-pub fn check_not_poisoned(l: Letters, poisoned: bool) -> usize
+pub(crate) fn check_not_poisoned(l: Letters, poisoned: bool) -> usize
     ensures { λ g. ⌜ g ≡ gateFrom 11 ((hits (letterIn l) 10 F || poisoned) ∷ []) ⌝ }
 {
     if l.at[10] == b'F' {
@@ -153,32 +158,32 @@ pub fn check_not_poisoned(l: Letters, poisoned: bool) -> usize
 }
 
 // Steps 11 to 14: the fault strikes before the test's answer is looked at.
-pub fn index_read_conflict(l: Letters, conflict: bool) -> usize
+pub(crate) fn index_read_conflict(l: Letters, conflict: bool) -> usize
     ensures { λ g. ⌜ g ≡ gateFrom 12 (hits (letterIn l) 11 F ∷ conflict ∷ []) ⌝ }
 {
     first_of_two(l.at[11] == b'F', conflict, INDEX_READS_FAILED)
 }
 
-pub fn has_row_lock_conflict(l: Letters, conflict: bool) -> usize
+pub(crate) fn has_row_lock_conflict(l: Letters, conflict: bool) -> usize
     ensures { λ g. ⌜ g ≡ gateFrom 14 (hits (letterIn l) 12 F ∷ conflict ∷ []) ⌝ }
 {
     first_of_two(l.at[12] == b'F', conflict, ROW_LOCKS_FAILED)
 }
 
-pub fn has_serialization_conflict(l: Letters, conflict: bool) -> usize
+pub(crate) fn has_serialization_conflict(l: Letters, conflict: bool) -> usize
     ensures { λ g. ⌜ g ≡ gateFrom 16 (hits (letterIn l) 13 F ∷ conflict ∷ []) ⌝ }
 {
     first_of_two(l.at[13] == b'F', conflict, SERIALIZATION_FAILED)
 }
 
-pub fn has_write_base_conflict(l: Letters, conflict: bool) -> usize
+pub(crate) fn has_write_base_conflict(l: Letters, conflict: bool) -> usize
     ensures { λ g. ⌜ g ≡ gateFrom 18 (hits (letterIn l) 14 F ∷ conflict ∷ []) ⌝ }
 {
     first_of_two(l.at[14] == b'F', conflict, WRITE_BASE_FAILED)
 }
 
 // Step 15.
-pub fn prepare_index_destinations(l: Letters) -> usize
+pub(crate) fn prepare_index_destinations(l: Letters) -> usize
     ensures { λ g. ⌜ g ≡ gateFrom 20 (hits (letterIn l) 15 F ∷ []) ⌝ }
 {
     gate_if(l.at[15] == b'F', INSERT_FAILED)
@@ -201,7 +206,7 @@ fn ends_callback(letter: u8) -> bool
 }
 
 // Step 16, logged only.
-pub fn invoke_before_publish(l: Letters, logged: bool) -> usize
+pub(crate) fn invoke_before_publish(l: Letters, logged: bool) -> usize
     ensures { λ g. ⌜ g ≡ gateFrom 21 ((logged && endsCallback (letterIn l 16)) ∷ []) ⌝ }
 {
     if logged {
@@ -212,38 +217,38 @@ pub fn invoke_before_publish(l: Letters, logged: bool) -> usize
 }
 
 // Steps 17 to 19, 21 and 22.
-pub fn remove_index_sources(l: Letters) -> usize
+pub(crate) fn remove_index_sources(l: Letters) -> usize
     ensures { λ g. ⌜ g ≡ gateFrom 22 (hits (letterIn l) 17 F ∷ []) ⌝ }
 {
     gate_if(l.at[17] == b'F', REMOVE_FAILED)
 }
 
-pub fn publish_write_set(l: Letters) -> usize
+pub(crate) fn publish_write_set(l: Letters) -> usize
     ensures { λ g. ⌜ g ≡ gateFrom 23 (hits (letterIn l) 18 F ∷ []) ⌝ }
 {
     gate_if(l.at[18] == b'F', PUBLISH_FAILED)
 }
 
-pub fn recycle_non_final_writes(l: Letters) -> usize
+pub(crate) fn recycle_non_final_writes(l: Letters) -> usize
     ensures { λ g. ⌜ g ≡ gateFrom 24 (hits (letterIn l) 19 F ∷ []) ⌝ }
 {
     gate_if(l.at[19] == b'F', RECYCLE_FAILED)
 }
 
 // Step 20: a fault is ignored.
-pub fn flush_local_recycle_caches() -> usize
+pub(crate) fn flush_local_recycle_caches() -> usize
     ensures { λ g. ⌜ g ≡ cleanGate ⌝ }
 {
     CLEAN
 }
 
-pub fn finish_transaction(l: Letters) -> usize
+pub(crate) fn finish_transaction(l: Letters) -> usize
     ensures { λ g. ⌜ g ≡ gateFrom 25 (hits (letterIn l) 21 F ∷ []) ⌝ }
 {
     gate_if(l.at[21] == b'F', FINISH_FAILED)
 }
 
-pub fn publish_index_stamps(l: Letters) -> usize
+pub(crate) fn publish_index_stamps(l: Letters) -> usize
     ensures { λ g. ⌜ g ≡ gateFrom 26 (hits (letterIn l) 22 F ∷ []) ⌝ }
 {
     gate_if(l.at[22] == b'F', STAMP_FAILED)

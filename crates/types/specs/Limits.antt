@@ -1,7 +1,7 @@
 -- The limits of "Store and transaction". Every other definition and every law names them. (src/lib.rt names the same limits for the
 -- arrays; the contracts of `Store::fresh`, `Tx::zero` and `Schedule::none` tie the two together.)
 use mathlib.Core.List.{List}
-use Prim.Native.Nat.{ℕ, suc, _*_}
+use Prim.Native.Nat.{ℕ, suc}
 use lib.ListN.{replicate}
 
 -- "64 row ids (0 to 63)"

@@ -3,7 +3,8 @@
 ghost use mathlib.Core.Path.{_≡_};
 ghost use mathlib.Core.Bool.{false};
 ghost use Prim.Native.Nat.{min};
-ghost use lib.ListN.{getD};
+ghost use lib.ListN.{getD, drop};
+ghost use Rattle.rules.specs.Lists.{allZero};
 ghost use Rattle.view.specs.Lent.{atRows, atPlaces, flagsAtPlaces, atStripes};
 use types::RowId;
 use types::SlotPtr;
@@ -90,4 +91,18 @@ pub fn stamp_at(stamps: &[u64; Store::STRIPES], stripe: u32) -> Txid
     } else {
         Txid::NONE
     }
+}
+
+// Zero from place n on.
+pub fn zeros_from(x: &[u64], n: usize) -> bool
+    ensures { λ r. ⌜ r ≡ allZero (drop n (now (x .entry))) ⌝ }
+{
+    let mut i = n;
+    while i < x.len() {
+        if x[i] != 0 {
+            return false;
+        }
+        i += 1;
+    }
+    true
 }

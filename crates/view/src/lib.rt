@@ -4,3 +4,4 @@
 pub mod lent;
 pub mod locks;
 pub mod txids;
+pub mod walk;

@@ -5,7 +5,7 @@ use Rattle.rules.specs.Lists.{memb}
 use Rattle.rules.specs.Store.{activeTxids}
 use Rattle.view.specs.Lent.{array-same}
 use Rattle.view.proofs.Lengths.{sized}
-use Rattle.admit.specs.Fits.{fit-by}
+use Rattle.fitting.specs.Fits.{fit-by}
 use Rattle.admit.specs.Admission.{admitted-by}
 use borrow.Author.Needs.{needs}
 use Rattle.admit.proofs.admission.admitted.Statement.{statement}

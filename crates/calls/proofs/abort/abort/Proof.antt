@@ -12,8 +12,8 @@ use borrow.Author.Needs.{needs}
 use Rattle.calls.proofs.abort.abort.Statement.{statement}
 use Rattle.calls.proofs.abort.abort.Tie as tie
 
-admits-requires : tie.Need-admits-requires
-admits-requires c κs = search needs
+admitted-requires : tie.Need-admitted-requires
+admitted-requires c κs = search needs
 
 is-done-requires : tie.Need-is-done-requires
 is-done-requires c κs = search needs
@@ -22,7 +22,7 @@ returns : tie.Need-returns
 returns c =
     let t = c .before in
     let s = t .before .before in
-    abort-refused (s .args .t1) (s .args .x) (t .before .admits .ensures) (sym (t .is-done .ensures) ∙ not-true _ (c .if1 .taken))
+    abort-refused (s .args .t1) (s .args .x) (t .before .admitted .ensures) (sym (t .is-done .ensures) ∙ not-true _ (c .if1 .taken))
 
 plan-abort-requires : tie.Need-plan-abort-requires
 plan-abort-requires c κs = search needs
@@ -40,7 +40,7 @@ returns-2 c =
     let S = s .args .t1 in
     let few = abort-few (atRows (S .heads)) (atPlaces (S .next)) (atPlaces (S .xmin)) (s .args .x .txid .0) in
     let long = array-length places 0 (S .xmin) in
-    abort-done S (s .args .x) (t .before .admits .ensures) (sized S (s .good .0)) (sym (t .is-done .ensures) ∙ not-false _ (c .before .before .before .before .before .before .before .before .before .if1 .left))
+    abort-done S (s .args .x) (t .before .admitted .ensures) (sized S (s .good .0)) (sym (t .is-done .ensures) ∙ not-false _ (c .before .before .before .before .before .before .before .before .before .if1 .left))
     (c .apply .ensures ∙ apply-held _ (adds-all (c .before .before .before .plan-abort .ensures) (omega arith)))
     (c .before .before .only-txid .ensures)
 
@@ -48,7 +48,7 @@ pub abort-spec : {M : Type 1} → statement M
 abort-spec =
     tie.close
     (tie.spec
-    admits-requires
+    admitted-requires
     is-done-requires
     returns
     plan-abort-requires

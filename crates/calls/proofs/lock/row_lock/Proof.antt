@@ -17,8 +17,8 @@ head-of-requires c κs = search needs
 locked-by-another-requires : tie.Need-locked-by-another-requires
 locked-by-another-requires c κs = search needs
 
-admits-requires : tie.Need-admits-requires
-admits-requires c κs = search needs
+admitted-requires : tie.Need-admitted-requires
+admitted-requires c κs = search needs
 
 healthy-requires : tie.Need-healthy-requires
 healthy-requires c κs = search needs
@@ -35,7 +35,7 @@ returns c =
     let l = t .before .before .before .before in
     let h = l .before .before .before .before .before in
     let s = h .before .before .before in
-    lock-refused (s .args .t1) (s .args .x) _ (sized (s .args .t1) (s .good .0)) (h .head-of .ensures) (l .locked-by-another .ensures) (t .before .before .before .admits .ensures) (t .before .before .healthy .ensures) (t .before .lock-refusal .ensures) (sym (t .is-done .ensures) ∙ not-true _ (c .if1 .taken))
+    lock-refused (s .args .t1) (s .args .x) _ (sized (s .args .t1) (s .good .0)) (h .head-of .ensures) (l .locked-by-another .ensures) (t .before .before .before .admitted .ensures) (t .before .before .healthy .ensures) (t .before .lock-refusal .ensures) (sym (t .is-done .ensures) ∙ not-true _ (c .if1 .taken))
 
 plan-lock-requires : tie.Need-plan-lock-requires
 plan-lock-requires c κs = search needs
@@ -50,8 +50,8 @@ returns-2 c =
     let h = l .before .before .before .before .before in
     let s = h .before .before .before in
     let done = (sym (t .is-done .ensures) ∙ not-false _ (c .before .before .before .before .if1 .left)) in
-    let placed = lock-placed (s .args .t1) (s .args .x) _ (sized (s .args .t1) (s .good .0)) (h .head-of .ensures) (l .locked-by-another .ensures) (t .before .before .before .admits .ensures) (t .before .before .healthy .ensures) (t .before .lock-refusal .ensures) done in
-    lock-done (s .args .t1) (s .args .x) _ (sized (s .args .t1) (s .good .0)) (h .head-of .ensures) (l .locked-by-another .ensures) (t .before .before .before .admits .ensures) (t .before .before .healthy .ensures) (t .before .lock-refusal .ensures) done (c .apply .ensures ∙ apply-held _ (adds-all (c .before .before .plan-lock .ensures (omega arith)) (lit≤ tt)))
+    let placed = lock-placed (s .args .t1) (s .args .x) _ (sized (s .args .t1) (s .good .0)) (h .head-of .ensures) (l .locked-by-another .ensures) (t .before .before .before .admitted .ensures) (t .before .before .healthy .ensures) (t .before .lock-refusal .ensures) done in
+    lock-done (s .args .t1) (s .args .x) _ (sized (s .args .t1) (s .good .0)) (h .head-of .ensures) (l .locked-by-another .ensures) (t .before .before .before .admitted .ensures) (t .before .before .healthy .ensures) (t .before .lock-refusal .ensures) done (c .apply .ensures ∙ apply-held _ (adds-all (c .before .before .plan-lock .ensures (omega arith)) (lit≤ tt)))
 
 pub row-lock-spec : {M : Type 1} → statement M
 row-lock-spec =
@@ -59,7 +59,7 @@ row-lock-spec =
     (tie.spec
     head-of-requires
     locked-by-another-requires
-    admits-requires
+    admitted-requires
     healthy-requires
     lock-refusal-requires
     is-done-requires

@@ -13,8 +13,8 @@ candidates-requires c κs = search needs
 record-marked-requires : tie.Need-record-marked-requires
 record-marked-requires c κs = search needs
 
-admits-requires : tie.Need-admits-requires
-admits-requires c κs = search needs
+admitted-requires : tie.Need-admitted-requires
+admitted-requires c κs = search needs
 
 healthy-requires : tie.Need-healthy-requires
 healthy-requires c κs = search needs
@@ -31,7 +31,7 @@ returns c =
     let l = t .before .before .before .before in
     let m = l .before .before .before .before .before .before in
     let s = m .before .before .before in
-    lookup-refused (s .args .t1) (s .args .x) _ (sized (s .args .t1) (s .good .0)) (m .candidates .ensures) (l .record-marked .ensures) (t .before .before .before .admits .ensures) (t .before .before .healthy .ensures) (t .before .lookup-refusal .ensures) (sym (t .is-done .ensures) ∙ not-true _ (c .if1 .taken))
+    lookup-refused (s .args .t1) (s .args .x) _ (sized (s .args .t1) (s .good .0)) (m .candidates .ensures) (l .record-marked .ensures) (t .before .before .before .admitted .ensures) (t .before .before .healthy .ensures) (t .before .lookup-refusal .ensures) (sym (t .is-done .ensures) ∙ not-true _ (c .if1 .taken))
 
 matching-requires : tie.Need-matching-requires
 matching-requires c κs = search needs
@@ -45,7 +45,7 @@ returns-2 c =
     let l = t .before .before .before .before in
     let m = l .before .before .before .before .before .before in
     let s = m .before .before .before in
-    lookup-done (s .args .t1) (s .args .x) _ (sized (s .args .t1) (s .good .0)) (m .candidates .ensures) (l .record-marked .ensures) (t .before .before .before .admits .ensures) (t .before .before .healthy .ensures) (t .before .lookup-refusal .ensures)
+    lookup-done (s .args .t1) (s .args .x) _ (sized (s .args .t1) (s .good .0)) (m .candidates .ensures) (l .record-marked .ensures) (t .before .before .before .admitted .ensures) (t .before .before .healthy .ensures) (t .before .lookup-refusal .ensures)
     (sym (t .is-done .ensures) ∙ not-false _ (c .before .before .before .before .before .before .before .before .before .before .before .before .if1 .left))
     (c .before .before .before .before .matching .ensures)
     (c .before .looked .ensures)
@@ -56,7 +56,7 @@ lookup-spec =
     (tie.spec
     candidates-requires
     record-marked-requires
-    admits-requires
+    admitted-requires
     healthy-requires
     lookup-refusal-requires
     is-done-requires

@@ -10,8 +10,8 @@ use Rattle.calls.proofs.read.read.Tie as tie
 with-read-requires : tie.Need-with-read-requires
 with-read-requires c κs = search needs
 
-admits-requires : tie.Need-admits-requires
-admits-requires c κs = search needs
+admitted-requires : tie.Need-admitted-requires
+admitted-requires c κs = search needs
 
 healthy-requires : tie.Need-healthy-requires
 healthy-requires c κs = search needs
@@ -27,7 +27,7 @@ returns c =
     let t = c .before in
     let l = t .before .before .before .before in
     let s = l .before .before .before .before .before in
-    read-refused (s .args .t1) (s .args .x) _ (sized (s .args .t1) (s .good .0)) (l .with-read .ensures) (t .before .before .before .admits .ensures) (t .before .before .healthy .ensures) (t .before .read-refusal .ensures) (sym (t .is-done .ensures) ∙ not-true _ (c .if1 .taken))
+    read-refused (s .args .t1) (s .args .x) _ (sized (s .args .t1) (s .good .0)) (l .with-read .ensures) (t .before .before .before .admitted .ensures) (t .before .before .healthy .ensures) (t .before .read-refusal .ensures) (sym (t .is-done .ensures) ∙ not-true _ (c .if1 .taken))
 
 read-ptr-requires : tie.Need-read-ptr-requires
 read-ptr-requires c κs = search needs
@@ -43,7 +43,7 @@ returns-2 c =
     let t = c .before .before .before .before .before .before .before .before .before .before .before in
     let l = t .before .before .before .before in
     let s = l .before .before .before .before .before in
-    read-done (s .args .t1) (s .args .x) _ (sized (s .args .t1) (s .good .0)) (l .with-read .ensures) (t .before .before .before .admits .ensures) (t .before .before .healthy .ensures) (t .before .read-refusal .ensures)
+    read-done (s .args .t1) (s .args .x) _ (sized (s .args .t1) (s .good .0)) (l .with-read .ensures) (t .before .before .before .admitted .ensures) (t .before .before .healthy .ensures) (t .before .read-refusal .ensures)
     (sym (t .is-done .ensures) ∙ not-false _ (c .before .before .before .before .before .before .before .before .before .before .if1 .left))
     (c .before .before .before .before .before .read-ptr .ensures)
     (c .before .value-at .ensures)
@@ -54,7 +54,7 @@ read-spec =
     tie.close
     (tie.spec
     with-read-requires
-    admits-requires
+    admitted-requires
     healthy-requires
     read-refusal-requires
     is-done-requires

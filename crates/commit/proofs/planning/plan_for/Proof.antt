@@ -1,6 +1,8 @@
 -- `plan_for` meets its contract: what is lent is the store's, and the marks are those of its walk.
+use mathlib.Core.Path.{_∙_}
 use mathlib.Core.Bool.{false}
 use Rattle.types.specs.Limits.{places}
+use Rattle.plan.specs.Planned.{plan-is}
 use Rattle.commit.specs.Planning.{whole, marks-are, laid-at, laid-count}
 use borrow.Author.Needs.{needs}
 use Rattle.commit.proofs.planning.plan_for.Statement.{statement}
@@ -17,7 +19,8 @@ plan-of-requires c κs = search needs
 
 returns : tie.Need-returns
 returns c =
-    λ S z h n m k b ok. c .plan-of .ensures S
+    λ S z h n m k b ok. c .plan-of .ensures
+    ∙ plan-is (c .before .before .before .before .before .before .args .x) _ _ _ _ _ _ S
     (whole places 0 k (z .key))
     (whole places false b (z .has))
     (whole places 0 m (z .xmin))

@@ -1,4 +1,4 @@
--- `record_marked` meets its contract: l holds the reads recorded so far, and those of the rows from r on make them all.
+-- `record_marked` meets its contract: l holds the reads recorded so far, and those of the rows from i on make them all.
 use mathlib.Core.Path.{_≡_, sym, ap, _∙_}
 use mathlib.Core.List.{List}
 use Prim.Native.Nat.{_-_, _≤_}
@@ -15,14 +15,14 @@ use Rattle.look.proofs.lookup.record_marked.Statement.{statement}
 use Rattle.look.proofs.lookup.record_marked.Tie as tie
 
 abbrev Inv-loop : tie.InvT-loop
-Inv-loop heads next xmin marks x l₀ r₀ l r = (r ≤ rows)
+Inv-loop heads next xmin marks x l₀ i₀ l i = (i ≤ rows)
     × (m : List ReadRecord)
     × (l ≡ laid m)
-    × (recordReadsOf (atRows heads) (atPlaces next) (atPlaces xmin) x (markedAt marks r) m
+    × (recordReadsOf (atRows heads) (atPlaces next) (atPlaces xmin) x (markedAt marks i) m
     ≡ recordReadsOf (atRows heads) (atPlaces next) (atPlaces xmin) x (markedRows (flagsAtRows marks)) (readsOf x))
 
 abbrev μ-loop : tie.MeasureT-loop
-μ-loop heads next xmin marks x l₀ r₀ l r = rows - r
+μ-loop heads next xmin marks x l₀ i₀ l i = rows - i
 
 reads-of-requires : tie.Need-reads-of-requires Inv-loop μ-loop
 reads-of-requires c κs = search needs
@@ -33,8 +33,8 @@ loop-holds c = (omega arith, readsOf (c .before .args .x), c .reads-of .ensures,
 element-copy-out-marked : tie.Need-element-copy-out-marked Inv-loop μ-loop
 element-copy-out-marked c = search needs
 
-add-r : tie.Need-add-r Inv-loop μ-loop
-add-r c = search needs
+add-i : tie.Need-add-i Inv-loop μ-loop
+add-i c = search needs
 
 record-read-requires : tie.Need-record-read-requires Inv-loop μ-loop
 record-read-requires c κs = search needs
@@ -46,9 +46,9 @@ loop-again : tie.Need-loop-again Inv-loop μ-loop
 loop-again c =
     let turn = c .before .before .before in
     let inv = turn .before .loop .inv in
-    let yes = marked-yes (turn .before .before .before .args .marks .now) (turn .before .loop .r) (turn .loop-test .taken) (c .before .if1 .taken) in
+    let yes = marked-yes (turn .before .before .before .args .marks .now) (turn .before .loop .i) (turn .loop-test .taken) (c .before .if1 .taken) in
     let a = turn .before .before .before .args in
-    let m = recordReadOf (atRows (a .heads .now)) (atPlaces (a .next .now)) (atPlaces (a .xmin .now)) (a .x) (turn .before .loop .r) (inv .1) in
+    let m = recordReadOf (atRows (a .heads .now)) (atPlaces (a .next .now)) (atPlaces (a .xmin .now)) (a .x) (turn .before .loop .i) (inv .1) in
     (omega arith, m, c .record-read .ensures (inv .1) (inv .2), sym (records-next _ _ _ _ _ _ _ _ yes) ∙ inv .3)
 
 loop-less-2 : tie.Need-loop-less-2 Inv-loop μ-loop
@@ -58,7 +58,7 @@ loop-again-2 : tie.Need-loop-again-2 Inv-loop μ-loop
 loop-again-2 c =
     let turn = c .before .before in
     let inv = turn .before .loop .inv in
-    let no = marked-no (turn .before .before .before .args .marks .now) (turn .before .loop .r) (turn .loop-test .taken) (c .if1 .left) in
+    let no = marked-no (turn .before .before .before .args .marks .now) (turn .before .loop .i) (turn .loop-test .taken) (c .if1 .left) in
     (omega arith, inv .1, inv .2, rw no at (inv .3))
 
 returns : tie.Need-returns Inv-loop μ-loop
@@ -75,7 +75,7 @@ record-marked-spec =
     reads-of-requires
     loop-holds
     element-copy-out-marked
-    add-r
+    add-i
     record-read-requires
     loop-less
     loop-again

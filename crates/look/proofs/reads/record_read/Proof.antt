@@ -1,38 +1,26 @@
 -- `record_read` meets its contract: by what is found for the row, and whether its pointer was read before.
 use mathlib.Core.Path.{refl, sym, ap, _∙_}
 use borrow.Author.Needs.{needs}
-use Rattle.look.specs.Found.{read-chain}
 use Rattle.look.specs.Reads.{laid}
-use Rattle.look.specs.Record.{record-own, record-none, record-once, read-before, read-new}
+use Rattle.look.specs.Record.{record-none, record-once, read-before, read-new}
 use Rattle.look.proofs.reads.record_read.Statement.{statement}
 use Rattle.look.proofs.reads.record_read.Tie as tie
 
-last-own-requires : tie.Need-last-own-requires
-last-own-requires c κs = search needs
+recorded-requires : tie.Need-recorded-requires
+recorded-requires c κs = search needs
 
 returns : tie.Need-returns
-returns c = λ m holds. holds ∙ ap laid (sym (record-own _ _ _ _ _ m _ (c .before .before .last-own .ensures) (c .if1 .taken)))
-
-visible-version-requires : tie.Need-visible-version-requires
-visible-version-requires c κs = search needs
-
-returns-2 : tie.Need-returns-2
-returns-2 c =
-    λ m holds.
-    let v = c .before .before in
-    let found = read-chain _ _ _ _ _ _ (v .before .before .before .last-own .ensures) _ (v .before .if1 .left) (v .visible-version .ensures) in
-    holds ∙ ap laid (sym (record-none _ _ _ _ _ m _ (v .before .before .before .last-own .ensures) (sym (c .if2 .taken) ∙ found)))
+returns c = λ m holds. holds ∙ ap laid (sym (record-none _ _ _ _ _ m (sym (c .if1 .taken) ∙ c .before .before .recorded .ensures)))
 
 has-read-requires : tie.Need-has-read-requires
 has-read-requires c κs = search needs
 
-returns-3 : tie.Need-returns-3
-returns-3 c =
+returns-2 : tie.Need-returns-2
+returns-2 c =
     λ m holds.
     let v = c .before .before .before .before in
-    let found = read-chain _ _ _ _ _ _ (v .before .before .before .last-own .ensures) _ (v .before .if1 .left) (v .visible-version .ensures) in
-    let once = record-once _ _ _ _ _ m _ (v .before .before .before .last-own .ensures) _ _ (v .before .if1 .left) found (c .before .before .if2 .left) refl in
-    holds ∙ (read-before _ m _ _ _ holds (c .before .has-read .ensures) (c .if3 .taken) ∙ ap laid (sym once))
+    let once = record-once _ _ _ _ _ m _ _ (v .recorded .ensures) (c .before .before .if1 .left) refl in
+    holds ∙ (read-before _ m _ _ _ holds (c .before .has-read .ensures) (c .if2 .taken) ∙ ap laid (sym once))
 
 txid-at-requires : tie.Need-txid-at-requires
 txid-at-requires c κs = search needs
@@ -40,24 +28,12 @@ txid-at-requires c κs = search needs
 push-read-requires : tie.Need-push-read-requires
 push-read-requires c κs = search needs
 
-returns-4 : tie.Need-returns-4
-returns-4 c =
+returns-3 : tie.Need-returns-3
+returns-3 c =
     λ m holds.
     let v = c .before .before .before .before .before .before in
-    let found = read-chain _ _ _ _ _ _ (v .before .before .before .last-own .ensures) _ (v .before .if1 .left) (v .visible-version .ensures) in
-    let once = record-once _ _ _ _ _ m _ (v .before .before .before .last-own .ensures) _ _ (v .before .if1 .left) found (c .before .before .before .before .if2 .left) (c .before .txid-at .ensures) in
-    c .push-read .ensures m holds ∙ (read-new _ m _ _ _ holds (c .before .before .before .has-read .ensures) (c .before .before .if3 .left) _ refl ∙ ap laid (sym once))
+    let once = record-once _ _ _ _ _ m _ _ (v .recorded .ensures) (c .before .before .before .before .if1 .left) (c .before .txid-at .ensures) in
+    c .push-read .ensures m holds ∙ (read-new _ m _ _ _ holds (c .before .before .before .has-read .ensures) (c .before .before .if2 .left) _ refl ∙ ap laid (sym once))
 
 pub record-read-spec : {M : Type 1} → statement M
-record-read-spec =
-    tie.close
-    (tie.spec
-    last-own-requires
-    returns
-    visible-version-requires
-    returns-2
-    has-read-requires
-    returns-3
-    txid-at-requires
-    push-read-requires
-    returns-4)
+record-read-spec = tie.close (tie.spec recorded-requires returns has-read-requires returns-2 txid-at-requires push-read-requires returns-3)

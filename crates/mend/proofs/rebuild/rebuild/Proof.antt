@@ -3,7 +3,7 @@ use mathlib.Core.Path.{sym, _∙_}
 use Prim.Native.Nat.{_≤_}
 use native.Mathlib.Omega.{arith}
 use Rattle.types.specs.Limits.{rows, postingLimit}
-use Rattle.journal.specs.Packed.{Packed}
+use Rattle.packed.specs.Packed.{Packed}
 use Rattle.mend.specs.Rebuild.{postingsFrom, rebuild-start, rebuild-end, rebuild-none, rebuild-put}
 use borrow.Author.Needs.{needs}
 use Rattle.mend.proofs.rebuild.rebuild.Statement.{statement}

@@ -70,7 +70,7 @@ returns : tie.Need-returns Inv-loop μ-loop
 returns c =
     let a = c .before .before .before .args in
     let long : length (a .t3) ≡ writeLimit = c .before .before .before .good .1 .1 .0 .1 .0 .1 in
-    λ p. c .before .loop .inv .2 ∙ ap movesOf (changes-all _ _ (a .t3) (a .count) _ (omega arith) p)
+    c .before .loop .inv .2 ∙ ap movesOf (changes-all _ _ (a .t3) (a .count) _ (omega arith))
 
 pub index-changes-spec : {M : Type 1} → statement M
 index-changes-spec =

@@ -1,6 +1,6 @@
 -- `plan_of` meets its contract, part by part.
 use Rattle.view.specs.Lent.{atPlaces, flagsAtPlaces}
-use Rattle.plan.specs.Planned.{plan-is}
+use Rattle.plan.specs.Planned.{plan-from}
 use borrow.Author.Needs.{needs}
 use Rattle.plan.proofs.run.plan_of.Statement.{statement}
 use Rattle.plan.proofs.run.plan_of.Tie as tie
@@ -23,7 +23,7 @@ recycled-marks-requires c κs = search needs
 returns : tie.Need-returns
 returns c =
     let a = c .before .before .before .before .before .before .before .before .args in
-    λ S k h t w p n ok. plan-is S (a .x) (atPlaces (a .key .now)) (atPlaces (a .xmin .now)) (atPlaces (a .seen .now)) (flagsAtPlaces (a .has .now)) (a .at) (a .count) (c .before .before .before .before .before .before .before .index-changes .ensures) (c .before .before .before .guarded-stripes .ensures) (c .before .before .guarded-partitions .ensures) (c .before .own-marks .ensures) (c .recycled-marks .ensures) k h t w p n ok
+    plan-from (a .x) (atPlaces (a .key .now)) (atPlaces (a .xmin .now)) (atPlaces (a .seen .now)) (flagsAtPlaces (a .has .now)) (a .at) (a .count) (c .before .before .before .before .before .before .before .index-changes .ensures) (c .before .before .before .guarded-stripes .ensures) (c .before .before .guarded-partitions .ensures) (c .before .own-marks .ensures) (c .recycled-marks .ensures)
 
 pub plan-of-spec : {M : Type 1} → statement M
 plan-of-spec =

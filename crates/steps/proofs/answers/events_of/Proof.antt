@@ -1,7 +1,6 @@
 -- `events_of` meets its contract, flag by flag.
 use Rattle.rules.specs.Answer.{eventsOf}
 use Rattle.steps.specs.Answers.{eventsBy}
-use Prim.Native.Nat.{_-_}
 use borrow.Author.Needs.{needs}
 use Rattle.steps.proofs.answers.events_of.Statement.{statement}
 use Rattle.steps.proofs.answers.events_of.Tie as tie

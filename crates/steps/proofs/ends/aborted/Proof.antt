@@ -1,5 +1,4 @@
 -- `aborted` meets its contract, by whether the abort failed.
-use Prim.Native.Nat.{_-_}
 use borrow.Author.Needs.{needs}
 use Rattle.steps.proofs.ends.aborted.Statement.{statement}
 use Rattle.steps.proofs.ends.aborted.Tie as tie

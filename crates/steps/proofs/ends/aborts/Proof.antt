@@ -1,6 +1,5 @@
 -- `aborts` meets its contract, by whether the abort failed.
 use mathlib.Core.Bool.{or-true, and-true, or-false, and-false}
-use Prim.Native.Nat.{_-_}
 use Rattle.steps.proofs.ends.aborts.Statement.{statement}
 use Rattle.steps.proofs.ends.aborts.Tie as tie
 

@@ -1,5 +1,4 @@
 -- `callback_at` meets its contract, from the letters at its steps.
-use Prim.Native.Nat.{_-_}
 use borrow.Author.Needs.{needs}
 use Rattle.steps.proofs.ends.callback_at.Statement.{statement}
 use Rattle.steps.proofs.ends.callback_at.Tie as tie

@@ -1,5 +1,4 @@
 -- `callback_ended` meets its contract, from its parts.
-use Prim.Native.Nat.{_-_}
 use borrow.Author.Needs.{needs}
 use Rattle.steps.proofs.ends.callback_ended.Statement.{statement}
 use Rattle.steps.proofs.ends.callback_ended.Tie as tie

@@ -1,5 +1,4 @@
 -- `callback_refusal` meets its contract, by its tests.
-use Prim.Native.Nat.{_-_}
 use Rattle.steps.proofs.ends.callback_refusal.Statement.{statement}
 use Rattle.steps.proofs.ends.callback_refusal.Tie as tie
 

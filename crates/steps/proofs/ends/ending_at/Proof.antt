@@ -1,7 +1,6 @@
 -- `ending_at` meets its contract, number by number.
 use borrow.Author.Tests.{ne-eqb}
 use Rattle.steps.specs.Ends.{endingFor}
-use Prim.Native.Nat.{_-_}
 use borrow.Author.Needs.{needs}
 use Rattle.steps.proofs.ends.ending_at.Statement.{statement}
 use Rattle.steps.proofs.ends.ending_at.Tie as tie

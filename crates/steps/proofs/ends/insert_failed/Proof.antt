@@ -1,5 +1,4 @@
 -- `insert_failed` meets its contract, from the fate.
-use Prim.Native.Nat.{_-_}
 use borrow.Author.Needs.{needs}
 use Rattle.steps.proofs.ends.insert_failed.Statement.{statement}
 use Rattle.steps.proofs.ends.insert_failed.Tie as tie

@@ -2,7 +2,6 @@
 use lib.ListN.{List·getD-eq-default}
 use Rattle.steps.specs.Ends.{gateLeft, within}
 use mathlib.Core.Path.{sym}
-use Prim.Native.Nat.{_-_}
 use native.Mathlib.Omega.{arith}
 use borrow.Author.Needs.{needs}
 use Rattle.steps.proofs.ends.left_at.Statement.{statement}

@@ -2,7 +2,6 @@
 use lib.ListN.{List·getD-eq-default}
 use Rattle.steps.specs.Ends.{gateNumbers}
 use mathlib.Core.Path.{refl, sym}
-use Prim.Native.Nat.{_-_}
 use native.Mathlib.Omega.{arith}
 use borrow.Author.Needs.{needs}
 use Rattle.steps.proofs.ends.number_at.Statement.{statement}

@@ -2,7 +2,6 @@
 use lib.ListN.{List·getD-eq-default}
 use Rattle.steps.specs.Ends.{gatePassed, within}
 use mathlib.Core.Path.{sym}
-use Prim.Native.Nat.{_-_}
 use native.Mathlib.Omega.{arith}
 use borrow.Author.Needs.{needs}
 use Rattle.steps.proofs.ends.passed_at.Statement.{statement}

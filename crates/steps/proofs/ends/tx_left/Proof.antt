@@ -1,7 +1,6 @@
 -- `tx_left` meets its contract, by what the gate leaves.
 use borrow.Author.Tests.{ne-eqb}
 use Rattle.steps.specs.Ends.{txFor}
-use Prim.Native.Nat.{_-_}
 use borrow.Author.Needs.{needs}
 use Rattle.steps.proofs.ends.tx_left.Statement.{statement}
 use Rattle.steps.proofs.ends.tx_left.Tie as tie

@@ -1,6 +1,5 @@
 -- `closing` meets its contract: each step ends the run, or the next ones decide.
 use Rattle.steps.specs.Stops.{closingTests, gate-stops, gate-goes}
-use Prim.Native.Nat.{_-_}
 use native.Mathlib.Omega.{arith}
 use borrow.Author.Needs.{needs}
 use Rattle.steps.proofs.first.closing.Statement.{statement}

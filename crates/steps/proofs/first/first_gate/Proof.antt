@@ -1,6 +1,5 @@
 -- `first_gate` meets its contract: each phase ends the run, or the next ones decide.
 use Rattle.steps.specs.Stops.{first-opening, first-guarding, first-conflict, first-closing}
-use Prim.Native.Nat.{_-_}
 use borrow.Author.Needs.{needs}
 use Rattle.steps.proofs.first.first_gate.Statement.{statement}
 use Rattle.steps.proofs.first.first_gate.Tie as tie

@@ -1,6 +1,5 @@
 -- `guarding` meets its contract: each step ends the run, or the next ones decide.
 use Rattle.steps.specs.Stops.{guardingTests, gate-stops, gate-goes}
-use Prim.Native.Nat.{_-_}
 use native.Mathlib.Omega.{arith}
 use borrow.Author.Needs.{needs}
 use Rattle.steps.proofs.first.guarding.Statement.{statement}

@@ -1,6 +1,5 @@
 -- `testing` meets its contract: each test ends the run, or the next ones decide.
 use Rattle.steps.specs.Stops.{conflictTests, gate-stops, gate-goes}
-use Prim.Native.Nat.{_-_}
 use native.Mathlib.Omega.{arith}
 use borrow.Author.Needs.{needs}
 use Rattle.steps.proofs.first.testing.Statement.{statement}

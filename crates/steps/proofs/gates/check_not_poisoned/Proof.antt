@@ -1,7 +1,6 @@
 -- `check_not_poisoned` meets its contract: the fault strikes, or the store's poison decides.
 use borrow.Author.Tests.{eq-eqb, ne-eqb}
 use Rattle.steps.specs.Stops.{gateFrom}
-use Prim.Native.Nat.{_-_}
 use borrow.Author.Needs.{needs}
 use Rattle.steps.proofs.gates.check_not_poisoned.Statement.{statement}
 use Rattle.steps.proofs.gates.check_not_poisoned.Tie as tie

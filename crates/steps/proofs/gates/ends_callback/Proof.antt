@@ -3,7 +3,6 @@ use borrow.Author.Tests.{ne-eqb}
 use lib.Dec.{eqb}
 use Rattle.rules.specs.Bools.{by}
 use Rattle.rules.specs.Faults.{Q}
-use Prim.Native.Nat.{_-_}
 use Rattle.steps.proofs.gates.ends_callback.Statement.{statement}
 use Rattle.steps.proofs.gates.ends_callback.Tie as tie
 

@@ -1,6 +1,5 @@
 -- `ensure_unlogged_write_allowed` meets its contract: the step is for a commit that is unlogged and has writes.
 use Rattle.steps.specs.Stops.{gateFrom}
-use Prim.Native.Nat.{_-_}
 use borrow.Author.Needs.{needs}
 use Rattle.steps.proofs.gates.ensure_unlogged_write_allowed.Statement.{statement}
 use Rattle.steps.proofs.gates.ensure_unlogged_write_allowed.Tie as tie

@@ -1,6 +1,5 @@
 -- `invoke_before_publish` meets its contract: the step is for a logged commit.
 use Rattle.steps.specs.Stops.{gateFrom}
-use Prim.Native.Nat.{_-_}
 use borrow.Author.Needs.{needs}
 use Rattle.steps.proofs.gates.invoke_before_publish.Statement.{statement}
 use Rattle.steps.proofs.gates.invoke_before_publish.Tie as tie

@@ -1,6 +1,5 @@
 -- `prepare_commit_record` meets its contract: the step is for a logged commit.
 use Rattle.steps.specs.Stops.{gateFrom}
-use Prim.Native.Nat.{_-_}
 use borrow.Author.Needs.{needs}
 use Rattle.steps.proofs.gates.prepare_commit_record.Statement.{statement}
 use Rattle.steps.proofs.gates.prepare_commit_record.Tie as tie

@@ -1,6 +1,5 @@
 -- `run_prepare` meets its contract: the step is for a logged commit.
 use Rattle.steps.specs.Stops.{gateFrom}
-use Prim.Native.Nat.{_-_}
 use borrow.Author.Needs.{needs}
 use Rattle.steps.proofs.gates.run_prepare.Statement.{statement}
 use Rattle.steps.proofs.gates.run_prepare.Tie as tie

@@ -4,7 +4,6 @@ use mathlib.Core.List.{[]}
 use Rattle.rules.specs.Types.{Tx}
 use Rattle.rules.specs.Transaction.{withReads, withIndexReads, withSavepoints}
 use mathlib.Core.Path.{ap}
-use Prim.Native.Nat.{_-_}
 use borrow.Author.Needs.{needs}
 use Rattle.steps.proofs.left.emptied.Statement.{statement}
 use Rattle.steps.proofs.left.emptied.Tie as tie

@@ -3,7 +3,6 @@ use mathlib.Core.List.{[]}
 use Rattle.rules.specs.Types.{Tx}
 use Rattle.rules.specs.Transaction.{withReads, withIndexReads}
 use mathlib.Core.Path.{ap}
-use Prim.Native.Nat.{_-_}
 use borrow.Author.Needs.{needs}
 use Rattle.steps.proofs.left.no_accesses.Statement.{statement}
 use Rattle.steps.proofs.left.no_accesses.Tie as tie

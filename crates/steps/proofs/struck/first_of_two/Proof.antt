@@ -1,7 +1,6 @@
 -- `first_of_two` meets its contract: the first gate is struck, or the next decides.
 use native.Mathlib.Numerals.{add-one}
 use Rattle.steps.specs.Stops.{gateFrom}
-use Prim.Native.Nat.{_-_}
 use borrow.Author.Needs.{needs}
 use Rattle.steps.proofs.struck.first_of_two.Statement.{statement}
 use Rattle.steps.proofs.struck.first_of_two.Tie as tie

@@ -1,6 +1,5 @@
 -- `gate_if` meets its contract, by its test.
 use Rattle.steps.specs.Stops.{gateFrom}
-use Prim.Native.Nat.{_-_}
 use Rattle.steps.proofs.struck.gate_if.Statement.{statement}
 use Rattle.steps.proofs.struck.gate_if.Tie as tie
 

@@ -1,0 +1,69 @@
+-- `fault_at` meets its contract: the fault at the step is the first one from the present place on.
+use Rattle.types.specs.Limits.{faultLimit}
+use Rattle.types.specs.Zero.{noFault}
+use Rattle.rules.specs.Faults.{faultAt, faultsOf}
+use Rattle.view.specs.First.{firstFrom, first-next, first-end}
+use Rattle.asks.specs.Faults.{fault-here, fault-later}
+use Rattle.view.proofs.Lengths.{faults-long}
+use mathlib.Core.Path.{_≡_, sym, ap, _∙_}
+use Prim.Native.Nat.{_-_, _≤_, min}
+use native.Mathlib.Omega.{arith}
+use borrow.Author.Needs.{needs}
+use Rattle.asks.proofs.faults.fault_at.Statement.{statement}
+use Rattle.asks.proofs.faults.fault_at.Tie as tie
+
+abbrev Inv-loop : tie.InvT-loop
+Inv-loop step plan n i₀ i = (i ≤ n) × (n ≡ min (plan .count) faultLimit) × (faultAt step (firstFrom (plan .count) (plan .faults) i) ≡ faultAt step (faultsOf plan))
+
+abbrev μ-loop : tie.MeasureT-loop
+μ-loop step plan n i₀ i = n - i
+
+clipped-requires : tie.Need-clipped-requires Inv-loop μ-loop
+clipped-requires c κs = search needs
+
+loop-holds : tie.Need-loop-holds Inv-loop μ-loop
+unfolding firstFrom
+loop-holds c = search needs
+
+mul-f : tie.Need-mul-f Inv-loop μ-loop
+mul-f c = search needs
+
+element-copy-out-f : tie.Need-element-copy-out-f Inv-loop μ-loop
+element-copy-out-f c = search needs
+
+returns : tie.Need-returns Inv-loop μ-loop
+returns c = let plan = c .before .before .before .before .before .before .args .t1 in
+    let long = faults-long plan (c .before .before .before .before .before .before .good .0) in
+    fault-here _ _ _ _ (first-next (plan .count) (plan .faults) _ noFault (omega arith)) (c .if1 .taken) ∙ c .before .before .before .before .loop .inv .2
+
+add-i : tie.Need-add-i Inv-loop μ-loop
+add-i c = search needs
+
+loop-less : tie.Need-loop-less Inv-loop μ-loop
+loop-less c = search needs
+
+loop-again : tie.Need-loop-again Inv-loop μ-loop
+loop-again c = let plan = c .before .before .before .before .before .before .args .t1 in
+    let long = faults-long plan (c .before .before .before .before .before .before .good .0) in
+    (omega arith, omega arith, sym (fault-later _ _ _ _ (first-next (plan .count) (plan .faults) _ noFault (omega arith)) (c .if1 .left)) ∙ c .before .before .before .before .loop .inv .2)
+
+returns-2 : tie.Need-returns-2 Inv-loop μ-loop
+returns-2 c = let plan = c .before .before .before .args .t1 in
+    let long = faults-long plan (c .before .before .before .good .0) in
+    ap (faultAt _) (sym (first-end (plan .count) (plan .faults) _ (omega arith))) ∙ c .before .loop .inv .2
+
+pub fault-at-spec : {M : Type 1} → statement M
+fault-at-spec =
+    tie.close
+    (tie.spec
+    Inv-loop
+    μ-loop
+    clipped-requires
+    loop-holds
+    mul-f
+    element-copy-out-f
+    returns
+    add-i
+    loop-less
+    loop-again
+    returns-2)

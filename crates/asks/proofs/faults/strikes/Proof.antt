@@ -1,0 +1,15 @@
+-- `strikes` meets its contract, from the fault at the step.
+use Rattle.asks.specs.Faults.{struckBy}
+use borrow.Author.Needs.{needs}
+use Rattle.asks.proofs.faults.strikes.Statement.{statement}
+use Rattle.asks.proofs.faults.strikes.Tie as tie
+
+fault-at-requires : tie.Need-fault-at-requires
+fault-at-requires c κs = search needs
+
+returns : tie.Need-returns
+unfolding struckBy
+returns c = rw (← c .before .fault-at .ensures)
+
+pub strikes-spec : {M : Type 1} → statement M
+strikes-spec = tie.close (tie.spec fault-at-requires returns)

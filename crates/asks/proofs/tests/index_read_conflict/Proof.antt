@@ -1,0 +1,82 @@
+-- `index_read_conflict` meets its contract: a stamp differs if one does from the present place on.
+use borrow.Author.Tests.{eq-eqb, ne-eqb}
+use Rattle.types.specs.Limits.{indexReadLimit}
+use Rattle.types.specs.Zero.{noIndexRead}
+use Rattle.rules.specs.Lists.{any}
+use Rattle.rules.specs.Tests.{indexReadConflict}
+use Rattle.view.specs.Lent.{atStripes}
+use Rattle.view.specs.First.{firstFrom, first-next, first-end, any-first, any-rest}
+use Rattle.asks.specs.Conflicts.{stampMoved, index-conflict-set, index-read-of}
+use Rattle.view.proofs.Lengths.{index-reads-long}
+use mathlib.Core.Path.{_≡_, sym, ap, _∙_}
+use Prim.Native.Nat.{_-_, _≤_, min}
+use native.Mathlib.Omega.{arith}
+use borrow.Author.Needs.{needs}
+use Rattle.asks.proofs.tests.index_read_conflict.Statement.{statement}
+use Rattle.asks.proofs.tests.index_read_conflict.Tie as tie
+
+abbrev Inv-loop : tie.InvT-loop
+Inv-loop stamps x n i₀ i = (i ≤ n) × (n ≡ min (x .«index_read_count») indexReadLimit) × (any (stampMoved (atStripes stamps)) (firstFrom (x .«index_read_count») (x .«index_reads») i) ≡ indexReadConflict (atStripes stamps) x)
+
+abbrev μ-loop : tie.MeasureT-loop
+μ-loop stamps x n i₀ i = n - i
+
+returns : tie.Need-returns Inv-loop μ-loop
+returns c = index-conflict-set _ _ (c .if1 .taken)
+
+clipped-requires : tie.Need-clipped-requires Inv-loop μ-loop
+clipped-requires c κs = search needs
+
+loop-holds : tie.Need-loop-holds Inv-loop μ-loop
+unfolding firstFrom
+loop-holds c = (omega arith, omega arith, index-read-of _ _ (c .before .if1 .left))
+
+mul-e : tie.Need-mul-e Inv-loop μ-loop
+mul-e c = search needs
+
+element-copy-out-e : tie.Need-element-copy-out-e Inv-loop μ-loop
+element-copy-out-e c = search needs
+
+stamp-at-requires : tie.Need-stamp-at-requires Inv-loop μ-loop
+stamp-at-requires c κs = search needs
+
+returns-2 : tie.Need-returns-2 Inv-loop μ-loop
+unfolding stampMoved
+returns-2 c = let x = c .before .before .before .before .before .before .before .before .before .args .t2 in
+    let long = index-reads-long x (c .before .before .before .before .before .before .before .before .before .good .1 .0) in
+    sym (any-first _ _ _ _ (first-next (x .«index_read_count») (x .«index_reads») _ noIndexRead (omega arith)) (rw (← c .before .before .before .stamp-at .ensures, ne-eqb _ _ (c .if2 .taken)))) ∙ c .before .before .before .before .before .before .loop .inv .2
+
+add-i : tie.Need-add-i Inv-loop μ-loop
+add-i c = search needs
+
+loop-less : tie.Need-loop-less Inv-loop μ-loop
+loop-less c = search needs
+
+loop-again : tie.Need-loop-again Inv-loop μ-loop
+unfolding stampMoved
+loop-again c = let x = c .before .before .before .before .before .before .before .before .before .args .t2 in
+    let long = index-reads-long x (c .before .before .before .before .before .before .before .before .before .good .1 .0) in
+    (omega arith, omega arith, sym (any-rest _ _ _ _ (first-next (x .«index_read_count») (x .«index_reads») _ noIndexRead (omega arith)) (rw (← c .before .before .before .stamp-at .ensures, eq-eqb _ _ (c .if2 .left)))) ∙ c .before .before .before .before .before .before .loop .inv .2)
+
+returns-3 : tie.Need-returns-3 Inv-loop μ-loop
+returns-3 c = let x = c .before .before .before .before .args .t2 in
+    let long = index-reads-long x (c .before .before .before .before .good .1 .0) in
+    ap (any _) (sym (first-end (x .«index_read_count») (x .«index_reads») _ (omega arith))) ∙ c .before .loop .inv .2
+
+pub index-read-conflict-spec : {M : Type 1} → statement M
+index-read-conflict-spec =
+    tie.close
+    (tie.spec
+    Inv-loop
+    μ-loop
+    returns
+    clipped-requires
+    loop-holds
+    mul-e
+    element-copy-out-e
+    stamp-at-requires
+    returns-2
+    add-i
+    loop-less
+    loop-again
+    returns-3)

@@ -1,0 +1,3 @@
+pub mod Faults
+pub mod Conflicts
+pub mod Finals

@@ -1,0 +1,86 @@
+// What the rows show.
+
+use super::bench::Bench;
+use mend::recover;
+use resting::rest::resting;
+use script::refusal::number_of;
+use sight::slots::value_at;
+use types::RowId;
+use types::SlotPtr;
+use types::Store;
+use types::Value;
+
+pub const OLD: u8 = 0;
+
+pub const NEW: u8 = 1;
+
+// some rows are old and some new, or one is neither
+pub const MIXED: u8 = 2;
+
+// recovery was refused, or left a store that is not at rest
+pub const REFUSED: u8 = 3;
+
+pub const UNREST: u8 = 4;
+
+// a cut beyond the last store changes nothing
+pub const WHOLE: u8 = 5;
+
+// a cut that is not answered by 18, its stores and the zero transaction
+pub const WRONG: u8 = 6;
+
+fn shown(v: Value) -> u64 {
+    match v {
+        Value::Absent => 0,
+        Value::Key(k) => k as u64 + 1,
+    }
+}
+
+// The heads' values: what the rows of a recovered store show.
+pub fn rows_of(s: Store) -> [u64; RowId::ROWS] {
+    let mut rows = [0; RowId::ROWS];
+    let mut r: usize = 0;
+    while r < RowId::ROWS {
+        let p = SlotPtr(s.heads[r]);
+        rows[r] = shown(value_at(&s.key, &s.has, p));
+        r += 1;
+    }
+    rows
+}
+
+fn same(a: [u64; RowId::ROWS], b: [u64; RowId::ROWS]) -> bool {
+    let mut r: usize = 0;
+    while r < RowId::ROWS {
+        if a[r] != b[r] {
+            return false;
+        }
+        r += 1;
+    }
+    true
+}
+
+fn compared(rows: [u64; RowId::ROWS], old: [u64; RowId::ROWS], new: [u64; RowId::ROWS]) -> u8 {
+    if same(rows, old) {
+        return OLD;
+    }
+    if same(rows, new) { NEW } else { MIXED }
+}
+
+// After recovery: a store at rest that isn't poisoned has no guard, no doom and exact postings.
+pub fn sight_of(b: Bench, s: Store) -> u8 {
+    let m = recover(s);
+    let why = m.refusal;
+    if number_of(why) != 0 {
+        return REFUSED;
+    }
+    let t = m.store;
+    if t.poisoned {
+        return UNREST;
+    }
+    if !resting(t) {
+        return UNREST;
+    }
+    let rows = rows_of(t);
+    let old = b.old;
+    let new = b.new;
+    compared(rows, old, new)
+}

@@ -1,0 +1,65 @@
+-- `faults_allowed` meets its contract: what is left from place i on decides as the whole does.
+use mathlib.Core.Path.{_≡_, sym, _∙_}
+use Prim.Native.Nat.{_+_, _-_, _<_, _≤_}
+use native.Mathlib.Omega.{arith}
+use borrow.Author.Needs.{needs}
+use borrow.Author.Tests.{not-true, not-false}
+use lib.ListN.{take}
+use Rattle.types.specs.Limits.{faultLimit}
+use Rattle.types.specs.Zero.{noFault}
+use Rattle.rules.specs.Lists.{all}
+use Rattle.rules.specs.Faults.{allowed}
+use Rattle.view.specs.Lent.{array}
+use Rattle.view.specs.Scan.{firstLeft, first-pass, first-fail, first-none}
+use Rattle.fitting.proofs.schedule.faults_allowed.Statement.{statement}
+use Rattle.fitting.proofs.schedule.faults_allowed.Tie as tie
+
+abbrev Inv-loop : tie.InvT-loop
+Inv-loop n faults i₀ i = (i ≤ n) × (firstLeft allowed n faultLimit noFault faults i ≡ all allowed (take n (array faultLimit noFault faults)))
+
+abbrev μ-loop : tie.MeasureT-loop
+μ-loop n faults i₀ i = n - i
+
+loop-holds : tie.Need-loop-holds Inv-loop μ-loop
+unfolding firstLeft
+loop-holds c = search needs
+
+mul-f : tie.Need-mul-f Inv-loop μ-loop
+mul-f c = search needs
+
+array-copy-out-f : tie.Need-array-copy-out-f Inv-loop μ-loop
+array-copy-out-f c = search needs
+
+fault-allowed-requires : tie.Need-fault-allowed-requires Inv-loop μ-loop
+fault-allowed-requires c κs = search needs
+
+returns : tie.Need-returns Inv-loop μ-loop
+returns c = first-fail _ _ _ _ _ _ _ (c .before .before .before .before .loop .inv .1) (omega arith) (omega arith) (sym (c .before .fault-allowed .ensures) ∙ not-true _ (c .if1 .taken))
+
+add-i : tie.Need-add-i Inv-loop μ-loop
+add-i c = search needs
+
+loop-less : tie.Need-loop-less Inv-loop μ-loop
+loop-less c = search needs
+
+loop-again : tie.Need-loop-again Inv-loop μ-loop
+loop-again c = (omega arith, first-pass _ _ _ _ _ _ _ (c .before .before .before .before .loop .inv .1) (omega arith) (omega arith) (sym (c .before .fault-allowed .ensures) ∙ not-false _ (c .if1 .left)))
+
+returns-2 : tie.Need-returns-2 Inv-loop μ-loop
+returns-2 c = first-none _ _ _ _ _ _ _ (c .before .loop .inv .1) (omega arith)
+
+pub faults-allowed-spec : {M : Type 1} → statement M
+faults-allowed-spec =
+    tie.close
+    (tie.spec
+    Inv-loop
+    μ-loop
+    loop-holds
+    mul-f
+    array-copy-out-f
+    fault-allowed-requires
+    returns
+    add-i
+    loop-less
+    loop-again
+    returns-2)

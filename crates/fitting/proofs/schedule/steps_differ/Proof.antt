@@ -1,0 +1,73 @@
+-- `steps_differ` meets its contract: what is left from place j on decides as the whole does.
+use mathlib.Core.Path.{_≡_}
+use Prim.Native.Nat.{_+_, _-_, _<_, _≤_}
+use native.Mathlib.Omega.{arith}
+use borrow.Author.Needs.{needs}
+use lib.ListN.{getD, take, drop}
+use Rattle.types.specs.Limits.{faultLimit}
+use Rattle.types.specs.Zero.{noFault}
+use Rattle.rules.specs.Lists.{all}
+use Rattle.view.specs.Lent.{array}
+use Rattle.fitting.specs.Allowed.{stepsDiffer}
+use Rattle.view.specs.Facts.{differ-yes, differ-no}
+use Rattle.view.specs.Scan.{firstLeft, first-pass, first-fail, first-none}
+use Rattle.fitting.proofs.schedule.steps_differ.Statement.{statement}
+use Rattle.fitting.proofs.schedule.steps_differ.Tie as tie
+
+abbrev Inv-loop : tie.InvT-loop
+Inv-loop n i faults step j₀ j = (j ≤ n) × (firstLeft (stepsDiffer (getD faults i noFault)) n faultLimit noFault faults j ≡ all (stepsDiffer (getD faults i noFault)) (drop (i + 1) (take n (array faultLimit noFault faults))))
+
+abbrev μ-loop : tie.MeasureT-loop
+μ-loop n i faults step j₀ j = n - j
+
+mul-step : tie.Need-mul-step Inv-loop μ-loop
+mul-step c = search needs
+
+element-copy-out-step : tie.Need-element-copy-out-step Inv-loop μ-loop
+element-copy-out-step c = search needs
+
+add-j : tie.Need-add-j Inv-loop μ-loop
+add-j c = search needs
+
+loop-holds : tie.Need-loop-holds Inv-loop μ-loop
+unfolding firstLeft
+loop-holds c = search needs
+
+mul-if1 : tie.Need-mul-if1 Inv-loop μ-loop
+mul-if1 c = search needs
+
+element-copy-out-if1 : tie.Need-element-copy-out-if1 Inv-loop μ-loop
+element-copy-out-if1 c = search needs
+
+returns : tie.Need-returns Inv-loop μ-loop
+returns c = first-fail _ _ _ _ _ _ _ (c .before .before .loop .inv .1) (omega arith) (omega arith) (differ-no (c .if1 .taken))
+
+add-j-2 : tie.Need-add-j-2 Inv-loop μ-loop
+add-j-2 c = search needs
+
+loop-less : tie.Need-loop-less Inv-loop μ-loop
+loop-less c = search needs
+
+loop-again : tie.Need-loop-again Inv-loop μ-loop
+loop-again c = (omega arith, first-pass _ _ _ _ _ _ _ (c .before .before .loop .inv .1) (omega arith) (omega arith) (differ-yes (c .if1 .left)))
+
+returns-2 : tie.Need-returns-2 Inv-loop μ-loop
+returns-2 c = first-none _ _ _ _ _ _ _ (c .before .loop .inv .1) (omega arith)
+
+pub steps-differ-spec : {M : Type 1} → statement M
+steps-differ-spec =
+    tie.close
+    (tie.spec
+    Inv-loop
+    μ-loop
+    mul-step
+    element-copy-out-step
+    add-j
+    loop-holds
+    mul-if1
+    element-copy-out-if1
+    returns
+    add-j-2
+    loop-less
+    loop-again
+    returns-2)

@@ -1,0 +1,81 @@
+-- `reads_fit` meets its contract: what is left from place i on decides as the whole does.
+use mathlib.Core.Path.{_≡_}
+use Prim.Native.Nat.{_+_, _-_, _<_, _≤_}
+use native.Mathlib.Omega.{arith}
+use borrow.Author.Needs.{needs}
+use lib.ListN.{getD, take}
+use Rattle.types.specs.Limits.{readLimit}
+use Rattle.types.specs.Zero.{noRead}
+use Rattle.rules.specs.Lists.{all}
+use Rattle.rules.specs.Fit.{readFit}
+use Rattle.view.specs.Lent.{array}
+use Rattle.view.specs.Scan.{firstLeft, first-pass, first-fail, first-none}
+use Rattle.fitting.specs.Fitting.{read-row, read-low, read-high, read-fits}
+use Rattle.fitting.proofs.tx.reads_fit.Statement.{statement}
+use Rattle.fitting.proofs.tx.reads_fit.Tie as tie
+
+abbrev Inv-loop : tie.InvT-loop
+Inv-loop n reads i₀ i = (i ≤ n) × (firstLeft readFit n readLimit noRead reads i ≡ all readFit (take n (array readLimit noRead reads)))
+
+abbrev μ-loop : tie.MeasureT-loop
+μ-loop n reads i₀ i = n - i
+
+loop-holds : tie.Need-loop-holds Inv-loop μ-loop
+unfolding firstLeft
+loop-holds c = search needs
+
+mul-if1 : tie.Need-mul-if1 Inv-loop μ-loop
+mul-if1 c = search needs
+
+element-copy-out-if1 : tie.Need-element-copy-out-if1 Inv-loop μ-loop
+element-copy-out-if1 c = search needs
+
+returns : tie.Need-returns Inv-loop μ-loop
+returns c = first-fail _ _ _ _ _ _ _ (c .before .before .loop .inv .1) (omega arith) (omega arith) (read-row (getD (c .before .before .before .args .t1) (c .before .before .loop .i) noRead) (c .if1 .taken))
+
+mul-place : tie.Need-mul-place Inv-loop μ-loop
+mul-place c = search needs
+
+element-copy-out-place : tie.Need-element-copy-out-place Inv-loop μ-loop
+element-copy-out-place c = search needs
+
+place-requires : tie.Need-place-requires Inv-loop μ-loop
+place-requires c κs = search needs
+
+returns-2 : tie.Need-returns-2 Inv-loop μ-loop
+returns-2 c = first-fail _ _ _ _ _ _ _ (c .before .before .before .before .loop .inv .1) (omega arith) (omega arith) (read-low (getD (c .before .before .before .before .before .args .t1) (c .before .before .before .before .loop .i) noRead) _ (c .before .place .ensures) (c .if2 .taken))
+
+returns-3 : tie.Need-returns-3 Inv-loop μ-loop
+returns-3 c = first-fail _ _ _ _ _ _ _ (c .before .before .before .before .before .loop .inv .1) (omega arith) (omega arith) (read-high (getD (c .before .before .before .before .before .before .args .t1) (c .before .before .before .before .before .loop .i) noRead) _ (c .before .before .place .ensures) (c .if3 .taken))
+
+add-i : tie.Need-add-i Inv-loop μ-loop
+add-i c = search needs
+
+loop-less : tie.Need-loop-less Inv-loop μ-loop
+loop-less c = search needs
+
+loop-again : tie.Need-loop-again Inv-loop μ-loop
+loop-again c = (omega arith, first-pass _ _ _ _ _ _ _ (c .before .before .before .before .before .loop .inv .1) (omega arith) (omega arith) (read-fits (getD (c .before .before .before .before .before .before .args .t1) (c .before .before .before .before .before .loop .i) noRead) _ (c .before .before .place .ensures) (c .before .before .before .if1 .left) (c .before .if2 .left) (c .if3 .left)))
+
+returns-4 : tie.Need-returns-4 Inv-loop μ-loop
+returns-4 c = first-none _ _ _ _ _ _ _ (c .before .loop .inv .1) (omega arith)
+
+pub reads-fit-spec : {M : Type 1} → statement M
+reads-fit-spec =
+    tie.close
+    (tie.spec
+    Inv-loop
+    μ-loop
+    loop-holds
+    mul-if1
+    element-copy-out-if1
+    returns
+    mul-place
+    element-copy-out-place
+    place-requires
+    returns-2
+    returns-3
+    add-i
+    loop-less
+    loop-again
+    returns-4)

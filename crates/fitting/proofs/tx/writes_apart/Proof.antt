@@ -1,0 +1,57 @@
+-- `writes_apart` meets its contract: what is left from place i on decides as the whole does.
+use mathlib.Core.Path.{_≡_, sym, _∙_}
+use Prim.Native.Nat.{_+_, _-_, _<_, _≤_}
+use native.Mathlib.Omega.{arith}
+use borrow.Author.Needs.{needs}
+use borrow.Author.Tests.{not-true, not-false}
+use lib.ListN.{take}
+use Rattle.types.specs.Limits.{writeLimit}
+use Rattle.types.specs.Zero.{noWrite}
+use Rattle.rules.specs.Fit.{writesApart}
+use Rattle.fitting.specs.Fitting.{writesDiffer, writes-apart}
+use Rattle.view.specs.Lent.{array}
+use Rattle.fitting.specs.Apart.{apartLeft, apart-pass, apart-fail, apart-end}
+use Rattle.fitting.proofs.tx.writes_apart.Statement.{statement}
+use Rattle.fitting.proofs.tx.writes_apart.Tie as tie
+
+abbrev Inv-loop : tie.InvT-loop
+Inv-loop writes n i₀ i = (i ≤ n) × (apartLeft writesDiffer n writeLimit noWrite writes i ≡ writesApart (take n (array writeLimit noWrite writes)))
+
+abbrev μ-loop : tie.MeasureT-loop
+μ-loop writes n i₀ i = n - i
+
+loop-holds : tie.Need-loop-holds Inv-loop μ-loop
+unfolding apartLeft
+loop-holds c = (omega arith, sym (writes-apart (take (c .args .n) (array writeLimit noWrite (c .args .writes)))))
+
+writes-differ-requires : tie.Need-writes-differ-requires Inv-loop μ-loop
+writes-differ-requires c κs = search needs
+
+returns : tie.Need-returns Inv-loop μ-loop
+returns c = apart-fail _ _ _ _ _ _ _ (c .before .before .before .loop .inv .1) (omega arith) (omega arith) (sym (c .before .writes-differ .ensures) ∙ not-true _ (c .if1 .taken))
+
+add-i : tie.Need-add-i Inv-loop μ-loop
+add-i c = search needs
+
+loop-less : tie.Need-loop-less Inv-loop μ-loop
+loop-less c = search needs
+
+loop-again : tie.Need-loop-again Inv-loop μ-loop
+loop-again c = (omega arith, apart-pass _ _ _ _ _ _ _ (c .before .before .before .loop .inv .1) (omega arith) (omega arith) (sym (c .before .writes-differ .ensures) ∙ not-false _ (c .if1 .left)))
+
+returns-2 : tie.Need-returns-2 Inv-loop μ-loop
+returns-2 c = apart-end _ _ _ _ _ _ _ (c .before .loop .inv .1) (omega arith)
+
+pub writes-apart-spec : {M : Type 1} → statement M
+writes-apart-spec =
+    tie.close
+    (tie.spec
+    Inv-loop
+    μ-loop
+    loop-holds
+    writes-differ-requires
+    returns
+    add-i
+    loop-less
+    loop-again
+    returns-2)

@@ -1,0 +1,65 @@
+-- `writes_fit` meets its contract: what is left from place i on decides as the whole does.
+use mathlib.Core.Path.{_≡_, sym, _∙_}
+use Prim.Native.Nat.{_+_, _-_, _<_, _≤_}
+use native.Mathlib.Omega.{arith}
+use borrow.Author.Needs.{needs}
+use borrow.Author.Tests.{not-true, not-false}
+use lib.ListN.{take}
+use Rattle.types.specs.Limits.{writeLimit}
+use Rattle.types.specs.Zero.{noWrite}
+use Rattle.rules.specs.Lists.{all}
+use Rattle.view.specs.Lent.{array}
+use Rattle.view.specs.Scan.{firstLeft, first-pass, first-fail, first-none}
+use Rattle.fitting.specs.Fitting.{writeAt}
+use Rattle.fitting.proofs.tx.writes_fit.Statement.{statement}
+use Rattle.fitting.proofs.tx.writes_fit.Tie as tie
+
+abbrev Inv-loop : tie.InvT-loop
+Inv-loop xmin next seen t n writes i₀ i = (i ≤ n) × (firstLeft (writeAt xmin next seen t) n writeLimit noWrite writes i ≡ all (writeAt xmin next seen t) (take n (array writeLimit noWrite writes)))
+
+abbrev μ-loop : tie.MeasureT-loop
+μ-loop xmin next seen t n writes i₀ i = n - i
+
+loop-holds : tie.Need-loop-holds Inv-loop μ-loop
+unfolding firstLeft
+loop-holds c = search needs
+
+mul-w : tie.Need-mul-w Inv-loop μ-loop
+mul-w c = search needs
+
+array-copy-out-w : tie.Need-array-copy-out-w Inv-loop μ-loop
+array-copy-out-w c = search needs
+
+write-fit-requires : tie.Need-write-fit-requires Inv-loop μ-loop
+write-fit-requires c κs = search needs
+
+returns : tie.Need-returns Inv-loop μ-loop
+returns c = first-fail _ _ _ _ _ _ _ (c .before .before .before .before .loop .inv .1) (omega arith) (omega arith) (sym (c .before .write-fit .ensures) ∙ not-true _ (c .if1 .taken))
+
+add-i : tie.Need-add-i Inv-loop μ-loop
+add-i c = search needs
+
+loop-less : tie.Need-loop-less Inv-loop μ-loop
+loop-less c = search needs
+
+loop-again : tie.Need-loop-again Inv-loop μ-loop
+loop-again c = (omega arith, first-pass _ _ _ _ _ _ _ (c .before .before .before .before .loop .inv .1) (omega arith) (omega arith) (sym (c .before .write-fit .ensures) ∙ not-false _ (c .if1 .left)))
+
+returns-2 : tie.Need-returns-2 Inv-loop μ-loop
+returns-2 c = first-none _ _ _ _ _ _ _ (c .before .loop .inv .1) (omega arith)
+
+pub writes-fit-spec : {M : Type 1} → statement M
+writes-fit-spec =
+    tie.close
+    (tie.spec
+    Inv-loop
+    μ-loop
+    loop-holds
+    mul-w
+    array-copy-out-w
+    write-fit-requires
+    returns
+    add-i
+    loop-less
+    loop-again
+    returns-2)

@@ -1,0 +1,4 @@
+pub mod Apart
+pub mod Allowed
+pub mod Fitting
+pub mod Fits

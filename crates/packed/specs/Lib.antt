@@ -1,0 +1,5 @@
+-- The definition that the contracts cite.
+pub mod Packed
+-- Laws about it.
+pub mod Insert
+pub mod Remove

@@ -1,0 +1,63 @@
+-- `chains_ok` meets its contract: what is left from row r on decides as the whole does.
+use mathlib.Core.Path.{_≡_, sym, _∙_}
+use Prim.Native.Nat.{_+_, _-_, _<_, _≤_}
+use native.Mathlib.Omega.{arith}
+use borrow.Author.Needs.{needs}
+use borrow.Author.Tests.{not-true, not-false}
+use Rattle.types.specs.Limits.{rows}
+use Rattle.rules.specs.Lists.{all}
+use Rattle.view.specs.Lent.{atRows}
+use Rattle.resting.specs.Versions.{chainAt}
+use Rattle.view.specs.Scan.{allLeft, all-pass, all-fail, all-end}
+use Rattle.resting.proofs.chains.chains_ok.Statement.{statement}
+use Rattle.resting.proofs.chains.chains_ok.Tie as tie
+
+abbrev Inv-loop : tie.InvT-loop
+Inv-loop heads xmin xmax next active doomed r₀ r = (r ≤ rows) × (allLeft (chainAt xmin xmax next active doomed) rows 0 heads r ≡ all (chainAt xmin xmax next active doomed) (atRows heads))
+
+abbrev μ-loop : tie.MeasureT-loop
+μ-loop heads xmin xmax next active doomed r₀ r = rows - r
+
+loop-holds : tie.Need-loop-holds Inv-loop μ-loop
+unfolding allLeft
+loop-holds c = search needs
+
+mul-chain-ok : tie.Need-mul-chain-ok Inv-loop μ-loop
+mul-chain-ok c = search needs
+
+element-copy-out-chain-ok : tie.Need-element-copy-out-chain-ok Inv-loop μ-loop
+element-copy-out-chain-ok c = search needs
+
+chain-ok-requires : tie.Need-chain-ok-requires Inv-loop μ-loop
+chain-ok-requires c κs = search needs
+
+returns : tie.Need-returns Inv-loop μ-loop
+returns c = all-fail _ _ _ _ _ _ (c .before .before .before .before .loop .inv .1) (omega arith) (sym (c .before .chain-ok .ensures) ∙ not-true _ (c .if1 .taken))
+
+add-r : tie.Need-add-r Inv-loop μ-loop
+add-r c = search needs
+
+loop-less : tie.Need-loop-less Inv-loop μ-loop
+loop-less c = search needs
+
+loop-again : tie.Need-loop-again Inv-loop μ-loop
+loop-again c = (omega arith, all-pass _ _ _ _ _ _ (c .before .before .before .before .loop .inv .1) (omega arith) (sym (c .before .chain-ok .ensures) ∙ not-false _ (c .if1 .left)))
+
+returns-2 : tie.Need-returns-2 Inv-loop μ-loop
+returns-2 c = all-end _ _ _ _ _ _ (c .before .loop .inv .1) (omega arith)
+
+pub chains-ok-spec : {M : Type 1} → statement M
+chains-ok-spec =
+    tie.close
+    (tie.spec
+    Inv-loop
+    μ-loop
+    loop-holds
+    mul-chain-ok
+    element-copy-out-chain-ok
+    chain-ok-requires
+    returns
+    add-r
+    loop-less
+    loop-again
+    returns-2)

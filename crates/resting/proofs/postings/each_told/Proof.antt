@@ -1,0 +1,68 @@
+-- `each_told` meets its contract: what is left from place i on decides as the whole does.
+use mathlib.Core.Path.{_≡_, sym, _∙_}
+use Prim.Native.Nat.{_+_, _-_, _<_, _≤_}
+use native.Mathlib.Omega.{arith}
+use borrow.Author.Needs.{needs}
+use borrow.Author.Tests.{not-true, not-false}
+use lib.ListN.{take}
+use Rattle.types.specs.Limits.{postingLimit}
+use Rattle.rules.specs.Lists.{all}
+use Rattle.view.specs.Lent.{array}
+use Rattle.resting.specs.Posted.{toldAt}
+use Rattle.view.specs.Scan.{firstLeft, first-pass, first-fail, first-none, first-out}
+use Rattle.resting.proofs.postings.each_told.Statement.{statement}
+use Rattle.resting.proofs.postings.each_told.Tie as tie
+
+abbrev Inv-loop : tie.InvT-loop
+Inv-loop heads key has postings n i₀ i = (i ≤ n) × (firstLeft (toldAt heads key has) n postingLimit 0 postings i ≡ all (toldAt heads key has) (take n (array postingLimit 0 postings)))
+
+abbrev μ-loop : tie.MeasureT-loop
+μ-loop heads key has postings n i₀ i = n - i
+
+loop-holds : tie.Need-loop-holds Inv-loop μ-loop
+unfolding firstLeft
+loop-holds c = search needs
+
+returns : tie.Need-returns Inv-loop μ-loop
+returns c = first-out _ _ _ _ _ _ _ (c .before .before .loop .inv .1) (c .if1 .taken)
+
+mul-told-by-head : tie.Need-mul-told-by-head Inv-loop μ-loop
+mul-told-by-head c = search needs
+
+element-copy-out-told-by-head : tie.Need-element-copy-out-told-by-head Inv-loop μ-loop
+element-copy-out-told-by-head c = search needs
+
+told-by-head-requires : tie.Need-told-by-head-requires Inv-loop μ-loop
+told-by-head-requires c κs = search needs
+
+returns-2 : tie.Need-returns-2 Inv-loop μ-loop
+returns-2 c = first-fail _ _ _ _ _ _ _ (c .before .before .before .before .before .loop .inv .1) (omega arith) (omega arith) (sym (c .before .told-by-head .ensures) ∙ not-true _ (c .if2 .taken))
+
+add-i : tie.Need-add-i Inv-loop μ-loop
+add-i c = search needs
+
+loop-less : tie.Need-loop-less Inv-loop μ-loop
+loop-less c = search needs
+
+loop-again : tie.Need-loop-again Inv-loop μ-loop
+loop-again c = (omega arith, first-pass _ _ _ _ _ _ _ (c .before .before .before .before .before .loop .inv .1) (omega arith) (omega arith) (sym (c .before .told-by-head .ensures) ∙ not-false _ (c .if2 .left)))
+
+returns-3 : tie.Need-returns-3 Inv-loop μ-loop
+returns-3 c = first-none _ _ _ _ _ _ _ (c .before .loop .inv .1) (omega arith)
+
+pub each-told-spec : {M : Type 1} → statement M
+each-told-spec =
+    tie.close
+    (tie.spec
+    Inv-loop
+    μ-loop
+    loop-holds
+    returns
+    mul-told-by-head
+    element-copy-out-told-by-head
+    told-by-head-requires
+    returns-2
+    add-i
+    loop-less
+    loop-again
+    returns-3)

@@ -1,0 +1,68 @@
+-- `postings_rise` meets its contract: what is left from place i on decides as the whole does.
+use mathlib.Core.Path.{_≡_}
+use Prim.Native.Nat.{suc, _+_, _-_, _<_, _≤_}
+use native.Mathlib.Omega.{arith}
+use native.Mathlib.Numerals.{add-one}
+use borrow.Author.Needs.{needs}
+use borrow.Author.Tests.{lt-ltb, le-ltb}
+use lib.ListN.{take}
+use Rattle.types.specs.Limits.{postingLimit}
+use Rattle.view.specs.Lent.{array}
+use Rattle.view.specs.Climb.{climb, climbLeft, climb-end, climb-low, climb-fails, climb-pass}
+use Rattle.resting.specs.Posted.{keyed}
+use Rattle.resting.proofs.postings.postings_rise.Statement.{statement}
+use Rattle.resting.proofs.postings.postings_rise.Tie as tie
+
+abbrev Inv-loop : tie.InvT-loop
+Inv-loop postings n least₀ i₀ least i = (i ≤ n) × (climbLeft suc keyed least n postingLimit postings i ≡ climb suc keyed 0 (take n (array postingLimit 0 postings)))
+
+abbrev μ-loop : tie.MeasureT-loop
+μ-loop postings n least₀ i₀ least i = n - i
+
+loop-holds : tie.Need-loop-holds Inv-loop μ-loop
+unfolding climbLeft
+loop-holds c = search needs
+
+mul-c : tie.Need-mul-c Inv-loop μ-loop
+mul-c c = search needs
+
+element-copy-out-c : tie.Need-element-copy-out-c Inv-loop μ-loop
+element-copy-out-c c = search needs
+
+add-i : tie.Need-add-i Inv-loop μ-loop
+add-i c = search needs
+
+returns : tie.Need-returns Inv-loop μ-loop
+returns c = climb-low _ _ _ _ _ _ _ _ (c .before .before .before .loop .inv .1) (omega arith) (omega arith) (c .if1 .taken)
+
+returns-2 : tie.Need-returns-2 Inv-loop μ-loop
+returns-2 c = climb-fails _ _ _ _ _ _ _ _ (c .before .before .before .before .loop .inv .1) (omega arith) (omega arith) (c .before .if1 .left) (le-ltb _ _ (c .if2 .taken))
+
+add-least : tie.Need-add-least Inv-loop μ-loop
+add-least c = search needs
+
+loop-less : tie.Need-loop-less Inv-loop μ-loop
+loop-less c = search needs
+
+loop-again : tie.Need-loop-again Inv-loop μ-loop
+loop-again c = (omega arith, climb-pass _ _ _ _ _ _ _ _ (c .before .before .before .before .loop .inv .1) (omega arith) (omega arith) _ (add-one _) (c .before .if1 .left) (lt-ltb _ _ (c .if2 .left)))
+
+returns-3 : tie.Need-returns-3 Inv-loop μ-loop
+returns-3 c = climb-end _ _ _ _ _ _ _ _ (c .before .loop .inv .1) (omega arith)
+
+pub postings-rise-spec : {M : Type 1} → statement M
+postings-rise-spec =
+    tie.close
+    (tie.spec
+    Inv-loop
+    μ-loop
+    loop-holds
+    mul-c
+    element-copy-out-c
+    add-i
+    returns
+    returns-2
+    add-least
+    loop-less
+    loop-again
+    returns-3)
