@@ -17,7 +17,7 @@ use Rattle.rules.specs.Transaction.{writesOf}
 use Rattle.rules.specs.Chains.{walk}
 use Rattle.rules.specs.Fit.{fit, writeFit}
 use Rattle.rules.specs.Calls.{candidates}
-use Rattle.view.specs.Marks.{markAll, mark-append}
+use Rattle.view.specs.Marks.{markAll, mark-append, all-append}
 use Rattle.look.specs.Marks.{noRows, markedRows, rows-in-order}
 
 -- the rows of those of a list of postings that are of key k
@@ -71,10 +71,6 @@ posted-low k (c ∷ l) =
     by (eqb (keyOf c) k)
     (λ e. rw (e, lt-ltb (rowOf c) rows (omega arith)) (posted-low k l))
     (λ e. rw e (posted-low k l))
-
-all-append : (f : ℕ → Bool) (l m : List ℕ) → all f l ≡ true → all f m ≡ true → all f (l ++ m) ≡ true
-all-append f [] m h k = k
-all-append f (x ∷ l) m h k = let b = and-true (f x) (all f l) h in rw (b .0) (all-append f l m (b .1) k)
 
 -- where every own row has a place, the marks read rising are the definition's candidates
 pub candidates-marked : (S : Store) (x : Tx) (k : ℕ) → all (λ r. ltb r rows) (ownRows (writesOf x)) ≡ true

@@ -97,34 +97,34 @@ pub fn plan_of<'a>(
 }
 
 // The gates by their numbers, where what is stored changes.
-pub struct Gate;
+struct Gate;
 
 impl Gate {
     // the stripes are guarded, then the partitions too
-    pub const STRIPES: usize = 7;
+    const STRIPES: usize = 7;
 
-    pub const PARTITIONS: usize = 9;
+    const PARTITIONS: usize = 9;
 
     // steps 15 to 22 that fail
-    pub const INSERT: usize = 20;
+    const INSERT: usize = 20;
 
-    pub const CALLBACK: usize = 21;
+    const CALLBACK: usize = 21;
 
-    pub const REMOVE: usize = 22;
+    const REMOVE: usize = 22;
 
-    pub const PUBLISH: usize = 23;
+    const PUBLISH: usize = 23;
 
-    pub const RECYCLE: usize = 24;
+    const RECYCLE: usize = 24;
 
-    pub const FINISH: usize = 25;
+    const FINISH: usize = 25;
 
-    pub const STAMP: usize = 26;
+    const STAMP: usize = 26;
 
     // the tests of steps 11 to 14 come before this gate
-    pub const TESTED: usize = 20;
+    const TESTED: usize = 20;
 
     // Which of them abort at once.
-    pub const ABORTS: [bool; Gate::TESTED] = [
+    const ABORTS: [bool; Gate::TESTED] = [
         false,
         false,
         true,

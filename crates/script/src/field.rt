@@ -35,7 +35,7 @@ pub enum Byte {
 }
 
 // Where the first such byte stands, or the length: the end of a field or of a line.
-pub fn up_to(s: &[u8], b: u8) -> usize
+pub(crate) fn up_to(s: &[u8], b: u8) -> usize
     ensures { λ r. ⌜ (r ≡ upTo b (now (s .entry))) × (r ≤ length (now (s .entry))) ⌝ }
 {
     let mut i: usize = 0;

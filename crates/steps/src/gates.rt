@@ -9,59 +9,59 @@ use super::struck::first_of_two;
 use super::struck::gate_if;
 use asks::faults::Letters;
 
-pub const CHANGES_FAILED: usize = 0;
+pub(crate) const CHANGES_FAILED: usize = 0;
 
-pub const LOCK_KEYS_FAILED: usize = 1;
+pub(crate) const LOCK_KEYS_FAILED: usize = 1;
 
-pub const RECORD_FAILED: usize = 2;
+pub(crate) const RECORD_FAILED: usize = 2;
 
-pub const PREPARE_FAILED: usize = 3;
+pub(crate) const PREPARE_FAILED: usize = 3;
 
-pub const PREPARE_PANICKED: usize = 4;
+pub(crate) const PREPARE_PANICKED: usize = 4;
 
-pub const INDEX_GUARDS_FAILED: usize = 5;
+pub(crate) const INDEX_GUARDS_FAILED: usize = 5;
 
-pub const INDEX_GUARDS_BUSY: usize = 6;
+pub(crate) const INDEX_GUARDS_BUSY: usize = 6;
 
-pub const PARTITION_GUARDS_FAILED: usize = 7;
+pub(crate) const PARTITION_GUARDS_FAILED: usize = 7;
 
-pub const PARTITION_GUARDS_BUSY: usize = 8;
+pub(crate) const PARTITION_GUARDS_BUSY: usize = 8;
 
-pub const UNLOGGED_CHECK_FAILED: usize = 9;
+pub(crate) const UNLOGGED_CHECK_FAILED: usize = 9;
 
-pub const DURABLY_BOUND: usize = 10;
+pub(crate) const DURABLY_BOUND: usize = 10;
 
-pub const POISONED: usize = 11;
+pub(crate) const POISONED: usize = 11;
 
-pub const INDEX_READS_FAILED: usize = 12;
+pub(crate) const INDEX_READS_FAILED: usize = 12;
 
-pub const INDEX_READS_CONFLICT: usize = 13;
+pub(crate) const INDEX_READS_CONFLICT: usize = 13;
 
-pub const ROW_LOCKS_FAILED: usize = 14;
+pub(crate) const ROW_LOCKS_FAILED: usize = 14;
 
-pub const ROW_LOCKS_CONFLICT: usize = 15;
+pub(crate) const ROW_LOCKS_CONFLICT: usize = 15;
 
-pub const SERIALIZATION_FAILED: usize = 16;
+pub(crate) const SERIALIZATION_FAILED: usize = 16;
 
-pub const SERIALIZATION_CONFLICT: usize = 17;
+pub(crate) const SERIALIZATION_CONFLICT: usize = 17;
 
-pub const WRITE_BASE_FAILED: usize = 18;
+pub(crate) const WRITE_BASE_FAILED: usize = 18;
 
-pub const WRITE_BASE_CONFLICT: usize = 19;
+pub(crate) const WRITE_BASE_CONFLICT: usize = 19;
 
-pub const INSERT_FAILED: usize = 20;
+pub(crate) const INSERT_FAILED: usize = 20;
 
-pub const CALLBACK_ENDED: usize = 21;
+pub(crate) const CALLBACK_ENDED: usize = 21;
 
-pub const REMOVE_FAILED: usize = 22;
+pub(crate) const REMOVE_FAILED: usize = 22;
 
-pub const PUBLISH_FAILED: usize = 23;
+pub(crate) const PUBLISH_FAILED: usize = 23;
 
-pub const RECYCLE_FAILED: usize = 24;
+pub(crate) const RECYCLE_FAILED: usize = 24;
 
-pub const FINISH_FAILED: usize = 25;
+pub(crate) const FINISH_FAILED: usize = 25;
 
-pub const STAMP_FAILED: usize = 26;
+pub(crate) const STAMP_FAILED: usize = 26;
 
 // No gate: the run goes on, and in the end is clean.
 pub const CLEAN: usize = 27;
