@@ -1,2 +1,2 @@
-// The three demands as theorems over the definitions: specs/Demand1.antt, Demand2.antt, Demand3.antt. Source 002's clauses on postings,
-// publication, the data segment and guards, and its witnesses: specs/Postings.antt, Publication.antt, Segment.antt, Held.antt, Witness.antt.
+// Nothing runs here: the three demands as theorems over the definitions stand in specs/Demand1.antt, Demand2.antt and Demand3.antt, and what shows
+// that their premises can be met in specs/Exhibits.antt and Struck.antt.

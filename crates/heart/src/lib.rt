@@ -1,1 +1,1 @@
-// Nothing runs here: demand 3 of document 01 is proved in specs/.
+// Nothing runs here: what repairable and resting mean, what recovery leaves, and that every prefix of a commit's stores can be mended, stand in specs/.
