@@ -47,9 +47,9 @@ pub struct Committed {
 pub fn begin_in(s: &mut Store) -> Told
     ensures { λ r. ⌜ (now (s .exit) ≡ begin (now (s .entry)) .store) × (r ≡ told (begin (now (s .entry)))) ⌝ }
 {
-    let a = calls::begin::begin(*s);
-    *s = parts::reply_store(a);
-    parts::reply_told(a)
+    let begun = calls::begin::begin(*s);
+    *s = parts::reply_store(begun);
+    parts::reply_told(begun)
 }
 
 pub fn read_in(s: &Store, x: Tx, r: RowId) -> Seen
@@ -61,9 +61,9 @@ pub fn read_in(s: &Store, x: Tx, r: RowId) -> Seen
 pub fn write_in(s: &mut Store, x: Tx, r: RowId, v: Value) -> Wrote
     ensures { λ q. ⌜ (now (s .exit) ≡ write (now (s .entry)) x (r .0) v .store) × (q ≡ wrote (write (now (s .entry)) x (r .0) v)) ⌝ }
 {
-    let a = calls::write::write(*s, x, r, v);
-    *s = parts::written_store(a);
-    parts::written_told(a)
+    let written = calls::write::write(*s, x, r, v);
+    *s = parts::written_store(written);
+    parts::written_told(written)
 }
 
 pub fn lookup_in(s: &Store, x: Tx, k: u32) -> Found
@@ -75,31 +75,31 @@ pub fn lookup_in(s: &Store, x: Tx, k: u32) -> Found
 pub fn row_lock_in(s: &mut Store, x: Tx, r: RowId) -> Told
     ensures { λ q. ⌜ (now (s .exit) ≡ rowLock (now (s .entry)) x (r .0) .store) × (q ≡ told (rowLock (now (s .entry)) x (r .0))) ⌝ }
 {
-    let a = calls::lock::row_lock(*s, x, r);
-    *s = parts::reply_store(a);
-    parts::reply_told(a)
+    let locked = calls::lock::row_lock(*s, x, r);
+    *s = parts::reply_store(locked);
+    parts::reply_told(locked)
 }
 
 pub fn abort_in(s: &mut Store, x: Tx) -> Told
     ensures { λ r. ⌜ (now (s .exit) ≡ abort (now (s .entry)) x .store) × (r ≡ told (abort (now (s .entry)) x)) ⌝ }
 {
-    let a = calls::abort::abort(*s, x);
-    *s = parts::reply_store(a);
-    parts::reply_told(a)
+    let aborted = calls::abort::abort(*s, x);
+    *s = parts::reply_store(aborted);
+    parts::reply_told(aborted)
 }
 
 pub fn commit_in(s: &mut Store, x: Tx, logged: bool, plan: Schedule, cut: Cut) -> Committed
     ensures { λ r. ⌜ (now (s .exit) ≡ commit (now (s .entry)) x logged plan cut .store) × (r ≡ committed (commit (now (s .entry)) x logged plan cut)) ⌝ }
 {
-    let a = commit::commit(*s, x, logged, plan, cut);
-    *s = parts::answer_store(a);
-    parts::answer_told(a)
+    let answer = commit::commit(*s, x, logged, plan, cut);
+    *s = parts::answer_store(answer);
+    parts::answer_told(answer)
 }
 
 pub fn recover_in(s: &mut Store) -> Refusal
     ensures { λ r. ⌜ (now (s .exit) ≡ recover (now (s .entry)) .store) × (r ≡ recover (now (s .entry)) .refusal) ⌝ }
 {
-    let a = mend::recover(*s);
-    *s = parts::mended_store(a);
-    parts::mended_told(a)
+    let mended = mend::recover(*s);
+    *s = parts::mended_store(mended);
+    parts::mended_told(mended)
 }

@@ -41,13 +41,13 @@ answers-by-table S x logged plan cut z e =
 
 module _ (S : Store) (x : Tx) (logged : Bool) (z : Sized S) (k : Keyed S) where
   -- demand 2, of an answer that is the definition's
-  pub commits-quietly : {plan : Schedule} {a : Answer} → plan ≡ noFaults → a ≡ commit S x logged plan Uncut → Quiet S x logged
-      → ((numberOf (a .refusal) ≡ 0) ↔ (Conflicts S x logged noFaults → ⊥)) × (isDone (a .refusal) ≡ true → Committed S x logged noFaults a)
+  pub commits-quietly : {plan : Schedule} {a : Answer} → plan ≡ noFaults → a ≡ commit S x logged plan Uncut
+      → (a ≡ commit S x logged noFaults Uncut) × (Quiet S x logged → ((numberOf (a .refusal) ≡ 0) ↔ (Conflicts S x logged noFaults → ⊥)) × (isDone (a .refusal) ≡ true → Committed S x logged noFaults a))
   unfolding noFaults
-  commits-quietly p e q =
-      rw (e, p) (demand-2 S x logged noFaults z k (q .ok) refl (q .sound) (q .free), demand-2-leaves S x logged noFaults z k (q .ok) refl (q .sound) (q .free))
+  commits-quietly p e =
+      (rw p at e, λ q. rw (e, p) (demand-2 S x logged noFaults z k (q .ok) refl (q .sound) (q .free), demand-2-leaves S x logged noFaults z k (q .ok) refl (q .sound) (q .free)))
 
   -- demand 3, of a recovery of what a commit left
-  pub survives : (plan : Schedule) (cut : Cut) {a : Answer} {r : Mended} → a ≡ commit S x logged plan cut → r ≡ recover (a .store) → resting S ≡ true
-      → (r ≡ recover (commit S x logged plan cut .store)) × Safe S x logged plan (commit S x logged plan cut .store)
-  survives plan cut e f rest = (rw e at f, demand-3 S x logged plan z k rest cut)
+  pub survives : (plan : Schedule) (cut : Cut) {a : Answer} {r : Mended} → a ≡ commit S x logged plan cut → r ≡ recover (a .store)
+      → (r ≡ recover (commit S x logged plan cut .store)) × (resting S ≡ true → Safe S x logged plan (commit S x logged plan cut .store))
+  survives plan cut e f = (rw e at f, λ rest. demand-3 S x logged plan z k rest cut)

@@ -5,6 +5,7 @@ ghost use mathlib.Core.Path.{_≡_};
 ghost use mathlib.Core.Bool.{true};
 ghost use mathlib.Core.Logic.{_↔_};
 ghost use Rattle.types.specs.Zero.{noFaults};
+ghost use Rattle.rules.specs.Types.{Uncut};
 ghost use Rattle.rules.specs.Admitted.{resting};
 ghost use Rattle.rules.specs.Numbers.{numberOf, isDone};
 ghost use Rattle.rules.specs.Answer.{commit};
@@ -33,7 +34,7 @@ pub fn commit_by_table(s: Store, x: Tx, logged: bool, plan: Schedule, cut: Cut) 
 
 // Demand 2: no fault, no cut.
 pub fn commit_quietly(s: Store, x: Tx, logged: bool) -> Answer
-    ensures { λ a. ⌜ (Quiet s x logged → ((numberOf (a .refusal) ≡ 0) ↔ (Conflicts s x logged noFaults → ⊥)) × (isDone (a .refusal) ≡ true → Committed s x logged noFaults a)) ⌝ }
+    ensures { λ a. ⌜ (a ≡ commit s x logged noFaults Uncut) × (Quiet s x logged → ((numberOf (a .refusal) ≡ 0) ↔ (Conflicts s x logged noFaults → ⊥)) × (isDone (a .refusal) ≡ true → Committed s x logged noFaults a)) ⌝ }
 {
     let plan = Schedule::none();
     commit(s, x, logged, plan, Cut::Uncut)
@@ -41,7 +42,7 @@ pub fn commit_quietly(s: Store, x: Tx, logged: bool) -> Answer
 
 // Demand 3: a commit, struck or cut anywhere, and then recovery.
 pub fn commit_and_recover(s: Store, x: Tx, logged: bool, plan: Schedule, cut: Cut) -> Mended
-    ensures { λ r. ⌜ (resting s ≡ true → (r ≡ recover (commit s x logged plan cut .store)) × Safe s x logged plan (commit s x logged plan cut .store)) ⌝ }
+    ensures { λ r. ⌜ (r ≡ recover (commit s x logged plan cut .store)) × (resting s ≡ true → Safe s x logged plan (commit s x logged plan cut .store)) ⌝ }
 {
     let a = commit(s, x, logged, plan, cut);
     let left = a.store;

@@ -19,17 +19,8 @@ abbrev μ-loop : tie.MeasureT-loop
 loop-holds : tie.Need-loop-holds Inv-loop μ-loop
 loop-holds c = (omega arith, omega arith, omega arith)
 
-shared-slice-read-if1 : tie.Need-shared-slice-read-if1 Inv-loop μ-loop
-shared-slice-read-if1 c = search needs
-
 add-n : tie.Need-add-n Inv-loop μ-loop
 add-n c = omega (arith, c .before .before .before .before .good .0 .1)
-
-add-i : tie.Need-add-i Inv-loop μ-loop
-add-i c = search needs
-
-loop-less : tie.Need-loop-less Inv-loop μ-loop
-loop-less c = search needs
 
 loop-again : tie.Need-loop-again Inv-loop μ-loop
 loop-again c =
@@ -45,15 +36,4 @@ returns : tie.Need-returns Inv-loop μ-loop
 returns c = let s = c .before .before .args .script .now in omega (arith, feeds-end s (c .before .loop .i) (omega arith))
 
 pub line-feeds-spec : {M : Type 1} → statement M
-line-feeds-spec =
-    tie.close
-    (tie.spec
-    Inv-loop
-    μ-loop
-    loop-holds
-    shared-slice-read-if1
-    add-n
-    add-i
-    loop-less
-    loop-again
-    returns)
+line-feeds-spec = tie.close (tie.spec Inv-loop μ-loop loop-holds (λ c. search needs) add-n (λ c. search needs) (λ c. search needs) loop-again returns)

@@ -5,35 +5,8 @@ use Rattle.binding.specs.Into.{into-short, into-room}
 use Rattle.binding.proofs.slack_replay.Statement.{statement}
 use Rattle.binding.proofs.slack_replay.Tie as tie
 
-line-feeds-requires : tie.Need-line-feeds-requires
-line-feeds-requires c κs = search needs
-
 returns : tie.Need-returns
 returns c = let a = c .before .before .before .before in into-short (a .args .script .now) (a .args .out .now) (omega (arith, c .before .line-feeds .ensures, c .if1 .taken))
-
-start-requires : tie.Need-start-requires
-start-requires c κs = search needs
-
-feed-requires : tie.Need-feed-requires
-feed-requires c κs = search needs
-
-sub-finish : tie.Need-sub-finish
-sub-finish c = search needs
-
-part-finish-start : tie.Need-part-finish-start
-part-finish-start c = search needs
-
-part-finish-end : tie.Need-part-finish-end
-part-finish-end c = search needs
-
-finish-requires : tie.Need-finish-requires
-finish-requires c κs = search needs
-
-add-result : tie.Need-add-result
-add-result c = search needs
-
-same-length : tie.Need-same-length
-same-length c = search needs
 
 returns-2 : tie.Need-returns-2
 returns-2 c =
@@ -57,16 +30,5 @@ returns-2 c =
 
 pub slack-replay-spec : {M : Type 1} → statement M
 slack-replay-spec =
-    tie.close
-    (tie.spec
-    line-feeds-requires
-    returns
-    start-requires
-    feed-requires
-    sub-finish
-    part-finish-start
-    part-finish-end
-    finish-requires
-    add-result
-    same-length
-    returns-2)
+    tie.close (tie.spec (λ c κs. search needs) returns (λ c κs. search needs) (λ c κs. search needs) (λ c. search needs) (λ c. search needs)
+    (λ c. search needs) (λ c κs. search needs) (λ c. search needs) (λ c. search needs) returns-2)

@@ -8,14 +8,8 @@ use Rattle.binding.specs.RoomLaws.{room-is, room-most}
 use Rattle.binding.proofs.slack_room.Statement.{statement}
 use Rattle.binding.proofs.slack_room.Tie as tie
 
-line-feeds-requires : tie.Need-line-feeds-requires
-line-feeds-requires c κs = search needs
-
 returns : tie.Need-returns
 returns c = let s = c .before .before .before .args .script .now in room-most s (omega (arith, c .before .line-feeds .ensures, c .if1 .taken))
-
-add-result : tie.Need-add-result
-add-result c = search needs
 
 mul-result : tie.Need-mul-result
 mul-result c = omega arith
@@ -27,4 +21,4 @@ returns-2 c =
     n ∙ room-is s (omega (arith, c .if1 .left))
 
 pub slack-room-spec : {M : Type 1} → statement M
-slack-room-spec = tie.close (tie.spec line-feeds-requires returns add-result mul-result returns-2)
+slack-room-spec = tie.close (tie.spec (λ c κs. search needs) returns (λ c. search needs) mul-result returns-2)

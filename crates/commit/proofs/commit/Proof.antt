@@ -6,26 +6,11 @@ use borrow.Author.Needs.{needs}
 use Rattle.commit.proofs.commit.Statement.{statement}
 use Rattle.commit.proofs.commit.Tie as tie
 
-schedule-fit-requires : tie.Need-schedule-fit-requires
-schedule-fit-requires c κs = search needs
-
-admitted-requires : tie.Need-admitted-requires
-admitted-requires c κs = search needs
-
-is-done-requires : tie.Need-is-done-requires
-is-done-requires c κs = search needs
-
-unchanged-requires : tie.Need-unchanged-requires
-unchanged-requires c κs = search needs
-
 returns : tie.Need-returns
 returns c =
     let d = c .before .before in
     let s = d .before .before .before in
     tried-refused (s .args .s) (s .args .x) (s .args .logged) (s .args .plan) (s .args .cut) (d .before .before .schedule-fit .ensures) (d .before .admitted .ensures) (sym (d .is-done .ensures) ∙ not-true _ (c .before .if1 .taken)) (c .unchanged .ensures)
-
-run-requires : tie.Need-run-requires
-run-requires c κs = search needs
 
 returns-2 : tie.Need-returns-2
 returns-2 c =
@@ -37,12 +22,5 @@ returns-2 c =
 
 pub commit-spec : {M : Type 1} → statement M
 commit-spec =
-    tie.close
-    (tie.spec
-    schedule-fit-requires
-    admitted-requires
-    is-done-requires
-    unchanged-requires
-    returns
-    run-requires
+    tie.close (tie.spec (λ c κs. search needs) (λ c κs. search needs) (λ c κs. search needs) (λ c κs. search needs) returns (λ c κs. search needs)
     returns-2)

@@ -6,12 +6,6 @@ use Rattle.joined.proofs.Keyed.{keyed}
 use Rattle.joined.proofs.commit_and_recover.Statement.{statement}
 use Rattle.joined.proofs.commit_and_recover.Tie as tie
 
-commit-requires : tie.Need-commit-requires
-commit-requires c κs = search needs
-
-recover-requires : tie.Need-recover-requires
-recover-requires c κs = search needs
-
 returns : tie.Need-returns
 returns c =
     let s = c .before .before .before in
@@ -19,4 +13,4 @@ returns c =
     survives S (s .args .x) (s .args .logged) (sized S (s .good .0)) (keyed S (s .good .0)) (s .args .plan) (s .args .cut) (c .before .before .commit .ensures) (c .recover .ensures)
 
 pub commit-and-recover-spec : {M : Type 1} → statement M
-commit-and-recover-spec = tie.close (tie.spec commit-requires recover-requires returns)
+commit-and-recover-spec = tie.close (tie.spec (λ c κs. search needs) (λ c κs. search needs) returns)

@@ -5,9 +5,6 @@ use borrow.Author.Needs.{needs}
 use Rattle.joined.proofs.commit_by_table.Statement.{statement}
 use Rattle.joined.proofs.commit_by_table.Tie as tie
 
-commit-requires : tie.Need-commit-requires
-commit-requires c κs = search needs
-
 returns : tie.Need-returns
 returns c =
     let s = c .before in
@@ -15,4 +12,4 @@ returns c =
     answers-by-table S (s .args .x) (s .args .logged) (s .args .plan) (s .args .cut) (sized S (s .good .0)) (c .commit .ensures)
 
 pub commit-by-table-spec : {M : Type 1} → statement M
-commit-by-table-spec = tie.close (tie.spec commit-requires returns)
+commit-by-table-spec = tie.close (tie.spec (λ c κs. search needs) returns)

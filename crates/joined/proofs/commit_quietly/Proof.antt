@@ -6,12 +6,6 @@ use Rattle.joined.proofs.Keyed.{keyed}
 use Rattle.joined.proofs.commit_quietly.Statement.{statement}
 use Rattle.joined.proofs.commit_quietly.Tie as tie
 
-none-requires : tie.Need-none-requires
-none-requires c κs = search needs
-
-commit-requires : tie.Need-commit-requires
-commit-requires c κs = search needs
-
 returns : tie.Need-returns
 returns c =
     let s = c .before .before in
@@ -19,4 +13,4 @@ returns c =
     commits-quietly S (s .args .x) (s .args .logged) (sized S (s .good .0)) (keyed S (s .good .0)) (c .before .none .ensures) (c .commit .ensures)
 
 pub commit-quietly-spec : {M : Type 1} → statement M
-commit-quietly-spec = tie.close (tie.spec none-requires commit-requires returns)
+commit-quietly-spec = tie.close (tie.spec (λ c κs. search needs) (λ c κs. search needs) returns)

@@ -14,34 +14,10 @@ returns-2 c = push-refused _ _ _ (rw (lt-ltb _ _ (c .before .if1 .left), lt-leb 
 returns-3 : tie.Need-returns-3
 returns-3 c = push-refused _ _ _ (rw (lt-ltb _ _ (c .before .before .if1 .left), le-leb _ _ (c .before .if2 .left), le-ltb _ _ (c .if3 .taken)))
 
-add-write : tie.Need-add-write
-add-write c = search needs
-
-mul-write : tie.Need-mul-write
-mul-write c = search needs
-
-add-write-2 : tie.Need-add-write-2
-add-write-2 c = search needs
-
-write-requires : tie.Need-write-requires
-write-requires c κs = search needs
-
-add-result : tie.Need-add-result
-add-result c = search needs
-
 returns-4 : tie.Need-returns-4
 returns-4 c = push-taken _ _ _ _ (rw (lt-ltb _ _ (c .before .before .before .before .if1 .left), le-leb _ _ (c .before .before .before .if2 .left), lt-ltb _ _ (c .before .before .if3 .left))) (c .before .write-arg .given .0 .1) (c .write .ensures)
 
 pub push-spec : {M : Type 1} → statement M
 push-spec =
-    tie.close
-    (tie.spec
-    returns
-    returns-2
-    returns-3
-    add-write
-    mul-write
-    add-write-2
-    write-requires
-    add-result
-    returns-4)
+    tie.close (tie.spec returns returns-2 returns-3 (λ c. search needs) (λ c. search needs) (λ c. search needs) (λ c κs. search needs)
+    (λ c. search needs) returns-4)

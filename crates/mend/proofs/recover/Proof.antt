@@ -4,12 +4,6 @@ use borrow.Author.Needs.{needs}
 use Rattle.mend.proofs.recover.Statement.{statement}
 use Rattle.mend.proofs.recover.Tie as tie
 
-repairable-requires : tie.Need-repairable-requires
-repairable-requires c κs = search needs
-
-recovered-requires : tie.Need-recovered-requires
-recovered-requires c κs = search needs
-
 returns : tie.Need-returns
 returns c = mended (c .before .before .before .args .s) _ (c .before .before .repairable .ensures) _ (c .before .if1 .taken) (c .recovered .ensures)
 
@@ -17,4 +11,4 @@ returns-2 : tie.Need-returns-2
 returns-2 c = refused (c .before .before .args .s) _ (c .before .repairable .ensures) (c .if1 .left)
 
 pub recover-spec : {M : Type 1} → statement M
-recover-spec = tie.close (tie.spec repairable-requires recovered-requires returns returns-2)
+recover-spec = tie.close (tie.spec (λ c κs. search needs) (λ c κs. search needs) returns returns-2)

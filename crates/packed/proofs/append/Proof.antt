@@ -7,18 +7,6 @@ use borrow.Author.Needs.{needs}
 use Rattle.packed.proofs.append.Statement.{statement}
 use Rattle.packed.proofs.append.Tie as tie
 
-mul-x : tie.Need-mul-x
-mul-x c = search needs
-
-slice-write-x : tie.Need-slice-write-x
-slice-write-x c = search needs
-
-add-clear : tie.Need-add-clear
-add-clear c = search needs
-
-clear-requires : tie.Need-clear-requires
-clear-requires c κs = search needs
-
 same-length : tie.Need-same-length
 same-length c = c .before .before .clear .kept .0 ∙ simp length-set
 
@@ -29,5 +17,4 @@ returns-2 : tie.Need-returns-2
 returns-2 c = let s = c .before .before in none-behind (s .args .x .now) (s .args .m) (s .args .v) (c .if1 .left)
 
 pub append-spec : {M : Type 1} → statement M
-append-spec =
-    tie.close (tie.spec mul-x slice-write-x add-clear clear-requires same-length returns returns-2)
+append-spec = tie.close (tie.spec (λ c. search needs) (λ c. search needs) (λ c. search needs) (λ c κs. search needs) same-length returns returns-2)

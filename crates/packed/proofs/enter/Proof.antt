@@ -5,17 +5,11 @@ use borrow.Author.Needs.{needs}
 use Rattle.packed.proofs.enter.Statement.{statement}
 use Rattle.packed.proofs.enter.Tie as tie
 
-live-requires : tie.Need-live-requires
-live-requires c κs = search needs
-
 append-requires : tie.Need-append-requires
 append-requires c κs = rw (c .before .live .ensures) (live-within (c .before .before .before .before .args .x .now))
-
-same-length : tie.Need-same-length
-same-length c = search needs
 
 returns : tie.Need-returns
 returns c = c .before .before .append .ensures ∙ rw (c .before .before .before .before .live .ensures, live-first (c .before .before .before .before .before .before .before .args .x .now))
 
 pub enter-spec : {M : Type 1} → statement M
-enter-spec = tie.close (tie.spec live-requires append-requires same-length returns)
+enter-spec = tie.close (tie.spec (λ c κs. search needs) append-requires (λ c. search needs) returns)

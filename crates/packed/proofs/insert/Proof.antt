@@ -6,51 +6,16 @@ use borrow.Author.Needs.{needs}
 use Rattle.packed.proofs.insert.Statement.{statement}
 use Rattle.packed.proofs.insert.Tie as tie
 
-clipped-requires : tie.Need-clipped-requires
-clipped-requires c κs = search needs
-
-seek-requires : tie.Need-seek-requires
-seek-requires c κs = search needs
-
-mul-if2 : tie.Need-mul-if2
-mul-if2 c = search needs
-
-slice-read-if2 : tie.Need-slice-read-if2
-slice-read-if2 c = search needs
-
-clear-requires : tie.Need-clear-requires
-clear-requires c κs = search needs
-
-same-length : tie.Need-same-length
-same-length c = search needs
-
 returns : tie.Need-returns
 returns c = let w = c .before .before .before .before .before .before .before .before .before in let s = w .before .before .args in insert-there (s .v) (s .n) (w .clipped .result) (c .before .before .before .before .before .before .before .seek .result) (s .x .now) (w .clipped .ensures) (c .before .before .before .before .before .before .before .seek .ensures) (omega arith) (c .before .before .before .before .if2 .taken) (c .before .before .clear .ensures)
 
 shift-requires : tie.Need-shift-requires
 shift-requires c κs = let w = c .before .before .before .before in let s = w .before .before .args in (place-within (s .v) (s .n) (w .clipped .result) (c .before .before .seek .result) (s .x .now) (w .clipped .ensures) (c .before .before .seek .ensures), omega arith)
 
-add-result : tie.Need-add-result
-add-result c = search needs
-
-same-length-2 : tie.Need-same-length-2
-same-length-2 c = search needs
-
 returns-2 : tie.Need-returns-2
 returns-2 c = let w = c .before .before .before .before .before .before .before in let s = w .before .before .args in insert-new (s .v) (s .n) (w .clipped .result) (c .before .before .before .before .before .seek .result) (s .x .now) (w .clipped .ensures) (c .before .before .before .before .before .seek .ensures) (⊎-elim (λ o _. o .2 .left) (λ o h. absurd (omega arith)) (c .before .before .before .before .if1 .came)) (c .before .before .shift .ensures)
 
 pub insert-spec : {M : Type 1} → statement M
 insert-spec =
-    tie.close
-    (tie.spec
-    clipped-requires
-    seek-requires
-    mul-if2
-    slice-read-if2
-    clear-requires
-    same-length
-    returns
-    shift-requires
-    add-result
-    same-length-2
-    returns-2)
+    tie.close (tie.spec (λ c κs. search needs) (λ c κs. search needs) (λ c. search needs) (λ c. search needs) (λ c κs. search needs)
+    (λ c. search needs) returns shift-requires (λ c. search needs) (λ c. search needs) returns-2)

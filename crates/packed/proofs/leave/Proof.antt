@@ -5,17 +5,11 @@ use borrow.Author.Needs.{needs}
 use Rattle.packed.proofs.leave.Statement.{statement}
 use Rattle.packed.proofs.leave.Tie as tie
 
-live-requires : tie.Need-live-requires
-live-requires c κs = search needs
-
 strip-requires : tie.Need-strip-requires
 strip-requires c κs = rw (c .before .live .ensures) (live-within (c .before .before .before .before .args .x .now))
-
-same-length : tie.Need-same-length
-same-length c = search needs
 
 returns : tie.Need-returns
 returns c = c .before .before .strip .ensures .at ∙ rw (c .before .before .before .before .live .ensures, live-first (c .before .before .before .before .before .before .before .args .x .now))
 
 pub leave-spec : {M : Type 1} → statement M
-leave-spec = tie.close (tie.spec live-requires strip-requires same-length returns)
+leave-spec = tie.close (tie.spec (λ c κs. search needs) strip-requires (λ c. search needs) returns)

@@ -4,17 +4,8 @@ use borrow.Author.Needs.{needs}
 use Rattle.packed.proofs.remove.Statement.{statement}
 use Rattle.packed.proofs.remove.Tie as tie
 
-clipped-requires : tie.Need-clipped-requires
-clipped-requires c κs = search needs
-
-strip-requires : tie.Need-strip-requires
-strip-requires c κs = search needs
-
-same-length : tie.Need-same-length
-same-length c = search needs
-
 returns : tie.Need-returns
 returns c = let s = c .before .before .before .before .before .before .args in rw (← (take-within (s .n) (c .before .before .before .before .clipped .result) (s .x .now) (c .before .before .before .before .clipped .ensures))) (c .before .before .strip .ensures)
 
 pub remove-spec : {M : Type 1} → statement M
-remove-spec = tie.close (tie.spec clipped-requires strip-requires same-length returns)
+remove-spec = tie.close (tie.spec (λ c κs. search needs) (λ c κs. search needs) (λ c. search needs) returns)

@@ -17,27 +17,6 @@ Inv-loop x₀ i m v carried₀ k₀ x carried k = (k ≤ m) × (length x ≡ len
 abbrev μ-loop : tie.MeasureT-loop
 μ-loop x₀ i m v carried₀ k₀ x carried k = m - k
 
-loop-holds : tie.Need-loop-holds Inv-loop μ-loop
-loop-holds c = search needs
-
-mul-old : tie.Need-mul-old Inv-loop μ-loop
-mul-old c = search needs
-
-slice-read-old : tie.Need-slice-read-old Inv-loop μ-loop
-slice-read-old c = search needs
-
-mul-x : tie.Need-mul-x Inv-loop μ-loop
-mul-x c = search needs
-
-slice-write-x : tie.Need-slice-write-x Inv-loop μ-loop
-slice-write-x c = search needs
-
-add-k : tie.Need-add-k Inv-loop μ-loop
-add-k c = search needs
-
-loop-less : tie.Need-loop-less Inv-loop μ-loop
-loop-less c = search needs
-
 loop-again : tie.Need-loop-again Inv-loop μ-loop
 loop-again c = let a = c .before .before in (omega arith, simp length-set (a .loop .inv .1), shift-turn (a .loop .x) (a .loop .k) (a .before .before .args .m) (a .loop .carried) (omega arith) (omega arith) ∙ a .loop .inv .2)
 
@@ -52,18 +31,5 @@ returns c = let a = c .before .before .before .before .before in let s = a .befo
 
 pub shift-spec : {M : Type 1} → statement M
 shift-spec =
-    tie.close
-    (tie.spec
-    Inv-loop
-    μ-loop
-    loop-holds
-    mul-old
-    slice-read-old
-    mul-x
-    slice-write-x
-    add-k
-    loop-less
-    loop-again
-    append-requires
-    same-length
-    returns)
+    tie.close (tie.spec Inv-loop μ-loop (λ c. search needs) (λ c. search needs) (λ c. search needs) (λ c. search needs) (λ c. search needs)
+    (λ c. search needs) (λ c. search needs) loop-again append-requires same-length returns)

@@ -18,41 +18,11 @@ Inv-loop x₀ m v kept₀ i₀ x kept i = (kept ≤ i) × (i ≤ m) × (length x
 abbrev μ-loop : tie.MeasureT-loop
 μ-loop x₀ m v kept₀ i₀ x kept i = m - i
 
-loop-holds : tie.Need-loop-holds Inv-loop μ-loop
-loop-holds c = search needs
-
-mul-y : tie.Need-mul-y Inv-loop μ-loop
-mul-y c = search needs
-
-slice-read-y : tie.Need-slice-read-y Inv-loop μ-loop
-slice-read-y c = search needs
-
-add-i : tie.Need-add-i Inv-loop μ-loop
-add-i c = search needs
-
-mul-x : tie.Need-mul-x Inv-loop μ-loop
-mul-x c = search needs
-
-slice-write-x : tie.Need-slice-write-x Inv-loop μ-loop
-slice-write-x c = search needs
-
-add-kept : tie.Need-add-kept Inv-loop μ-loop
-add-kept c = search needs
-
-loop-less : tie.Need-loop-less Inv-loop μ-loop
-loop-less c = search needs
-
 loop-again : tie.Need-loop-again Inv-loop μ-loop
 loop-again c = let a = c .before .before .before in (omega arith, omega arith, simp length-set (a .loop .inv .2), keep-turn (a .before .before .args .v) (a .loop .x) (a .loop .kept) (a .loop .i) (a .before .before .args .m) (omega arith) (omega arith) (omega arith) (c .if1 .taken) ∙ a .loop .inv .3)
 
-loop-less-2 : tie.Need-loop-less-2 Inv-loop μ-loop
-loop-less-2 c = search needs
-
 loop-again-2 : tie.Need-loop-again-2 Inv-loop μ-loop
 loop-again-2 c = let a = c .before .before .before in (omega arith, omega arith, a .loop .inv .2, skip-turn (a .before .before .args .v) (a .loop .x) (a .loop .kept) (a .loop .i) (a .before .before .args .m) (omega arith) (omega arith) (omega arith) (c .if1 .left) ∙ a .loop .inv .3)
-
-clear-requires : tie.Need-clear-requires Inv-loop μ-loop
-clear-requires c κs = search needs
 
 same-length : tie.Need-same-length Inv-loop μ-loop
 same-length c = c .before .before .clear .kept .0 ∙ c .before .before .before .before .before .loop .inv .2
@@ -62,21 +32,5 @@ returns c = let a = c .before .before .before .before .before in let s = a .befo
 
 pub strip-spec : {M : Type 1} → statement M
 strip-spec =
-    tie.close
-    (tie.spec
-    Inv-loop
-    μ-loop
-    loop-holds
-    mul-y
-    slice-read-y
-    add-i
-    mul-x
-    slice-write-x
-    add-kept
-    loop-less
-    loop-again
-    loop-less-2
-    loop-again-2
-    clear-requires
-    same-length
-    returns)
+    tie.close (tie.spec Inv-loop μ-loop (λ c. search needs) (λ c. search needs) (λ c. search needs) (λ c. search needs) (λ c. search needs)
+    (λ c. search needs) (λ c. search needs) (λ c. search needs) loop-again (λ c. search needs) loop-again-2 (λ c κs. search needs) same-length returns)

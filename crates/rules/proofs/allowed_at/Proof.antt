@@ -7,9 +7,6 @@ use Rattle.rules.specs.Faults.{masks, table}
 use Rattle.rules.proofs.allowed_at.Statement.{statement}
 use Rattle.rules.proofs.allowed_at.Tie as tie
 
-array-read-result : tie.Need-array-read-result
-array-read-result c = search needs
-
 returns : tie.Need-returns
 unfolding masks table
 returns c = search needs
@@ -19,4 +16,4 @@ unfolding masks table
 returns-2 c = sym (List·getD-eq-default masks 0 {n = c .before .args .step} (omega arith))
 
 pub allowed-at-spec : {M : Type 1} → statement M
-allowed-at-spec = tie.close (tie.spec array-read-result returns returns-2)
+allowed-at-spec = tie.close (tie.spec (λ c. search needs) returns returns-2)

@@ -6,47 +6,16 @@ use Rattle.script.specs.Split.{letter-alone, letter-first, no-letter}
 use Rattle.script.proofs.parse_line.Statement.{statement}
 use Rattle.script.proofs.parse_line.Tie as tie
 
-up-to-requires : tie.Need-up-to-requires
-up-to-requires c κs = search needs
-
 returns : tie.Need-returns
 returns c = sym (no-letter (c .before .before .before .args .line .now) (c .before .up-to .ensures .0) (c .if1 .taken))
 
-shared-slice-read-c : tie.Need-shared-slice-read-c
-shared-slice-read-c c = search needs
-
-no-field-requires : tie.Need-no-field-requires
-no-field-requires c κs = search needs
-
 returns-2 : tie.Need-returns-2
 returns-2 c = c .no-field .ensures ∙ sym (letter-alone (c .before .before .before .before .before .before .args .line .now) (c .before .before .before .before .up-to .ensures .0) (c .before .before .before .if1 .left) (omega arith))
-
-sub-fields : tie.Need-sub-fields
-sub-fields c = search needs
-
-part-fields-start : tie.Need-part-fields-start
-part-fields-start c = search needs
-
-part-fields-end : tie.Need-part-fields-end
-part-fields-end c = search needs
-
-fields-requires : tie.Need-fields-requires
-fields-requires c κs = search needs
 
 returns-3 : tie.Need-returns-3
 returns-3 c = c .fields .ensures ∙ sym (letter-first (c .before .before .before .before .before .before .before .args .line .now) (c .before .before .before .before .before .up-to .ensures .0) (c .before .before .before .before .if1 .left) (omega arith))
 
 pub parse-line-spec : {M : Type 1} → statement M
 parse-line-spec =
-    tie.close
-    (tie.spec
-    up-to-requires
-    returns
-    shared-slice-read-c
-    no-field-requires
-    returns-2
-    sub-fields
-    part-fields-start
-    part-fields-end
-    fields-requires
-    returns-3)
+    tie.close (tie.spec (λ c κs. search needs) returns (λ c. search needs) (λ c κs. search needs) returns-2 (λ c. search needs) (λ c. search needs)
+    (λ c. search needs) (λ c κs. search needs) returns-3)

@@ -5,13 +5,10 @@ use Rattle.view.proofs.Lengths.{snapshot-long}
 use Rattle.sight.proofs.sees.Statement.{statement}
 use Rattle.sight.proofs.sees.Tie as tie
 
-sees-by-requires : tie.Need-sees-by-requires
-sees-by-requires c κs = search needs
-
 returns : tie.Need-returns
 returns c =
     let x = c .before .before .before .before .before .args .t1 in
     sees-by x _ _ (snapshot-long x (c .before .before .before .before .before .good .0)) (c .sees-by .ensures)
 
 pub sees-spec : {M : Type 1} → statement M
-sees-spec = tie.close (tie.spec sees-by-requires returns)
+sees-spec = tie.close (tie.spec (λ c κs. search needs) returns)

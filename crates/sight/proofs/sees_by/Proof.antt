@@ -11,9 +11,6 @@ returns : tie.Need-returns
 unfolding seesBy
 returns c = simp (eq-eqb _ _ (c .if1 .taken))
 
-in-snapshot-requires : tie.Need-in-snapshot-requires
-in-snapshot-requires c κs = search needs
-
 returns-2 : tie.Need-returns-2
 unfolding seesBy
 returns-2 c = simp (ne-eqb _ _ (c .before .before .before .before .if1 .left), lt-ltb _ _ (c .before .if2 .taken)) (ap not (c .in-snapshot .ensures))
@@ -23,4 +20,4 @@ unfolding seesBy
 returns-3 c = simp (ne-eqb _ _ (c .before .before .before .if1 .left), le-ltb _ _ (c .if2 .left))
 
 pub sees-by-spec : {M : Type 1} → statement M
-sees-by-spec = tie.close (tie.spec returns in-snapshot-requires returns-2 returns-3)
+sees-by-spec = tie.close (tie.spec returns (λ c κs. search needs) returns-2 returns-3)

@@ -11,18 +11,6 @@ use borrow.Author.Needs.{needs}
 use Rattle.admit.proofs.admission.admitted.Statement.{statement}
 use Rattle.admit.proofs.admission.admitted.Tie as tie
 
-resting-marked-requires : tie.Need-resting-marked-requires
-resting-marked-requires c κs = search needs
-
-fit-of-requires : tie.Need-fit-of-requires
-fit-of-requires c κs = search needs
-
-is-active-requires : tie.Need-is-active-requires
-is-active-requires c κs = search needs
-
-tried-requires : tie.Need-tried-requires
-tried-requires c κs = search needs
-
 returns : tie.Need-returns
 returns c =
     let f = c .before .before .before .before in
@@ -37,4 +25,4 @@ returns c =
     (c .before .is-active .ensures ∙ ap (λ l. memb (s .args .x .txid .0) (activeTxids l)) (array-same activeLimit 0 (S .active) (z .active)))
 
 pub admitted-spec : {M : Type 1} → statement M
-admitted-spec = tie.close (tie.spec resting-marked-requires fit-of-requires is-active-requires tried-requires returns)
+admitted-spec = tie.close (tie.spec (λ c κs. search needs) (λ c κs. search needs) (λ c κs. search needs) (λ c κs. search needs) returns)

@@ -53,9 +53,6 @@ others = 1 ∷ 2 ∷ 3 ∷ 4 ∷ 5 ∷ 6 ∷ 7 ∷ 8 ∷ 9 ∷ 10 ∷ 11 ∷ 12 
 other : (w : Refusal) → (tagOf T.the-type w ≡ 0 → ⊥) → false ≡ isDone w
 other w n = rw (← tag-number w) (sym (ne-eqb (tagOf T.the-type w) 0 n))
 
-enum-told : tie.Need-enum-told
-enum-told c = search needs
-
 returns : tie.Need-returns
 returns c = rw (c .enum-told .given .1)
 
@@ -63,4 +60,4 @@ returns-2 : tie.Need-returns-2
 returns-2 c = other (c .before .args .why) (λ e. miss others 0 (tt {0}) (rw e at (c .match .keys2)))
 
 pub is-done-spec : {M : Type 1} → statement M
-is-done-spec = tie.close (tie.spec enum-told returns returns-2)
+is-done-spec = tie.close (tie.spec (λ c. search needs) returns returns-2)

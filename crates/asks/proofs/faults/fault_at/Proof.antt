@@ -18,29 +18,14 @@ Inv-loop step plan n i₀ i = (i ≤ n) × (n ≡ min (plan .count) faultLimit) 
 abbrev μ-loop : tie.MeasureT-loop
 μ-loop step plan n i₀ i = n - i
 
-clipped-requires : tie.Need-clipped-requires Inv-loop μ-loop
-clipped-requires c κs = search needs
-
 loop-holds : tie.Need-loop-holds Inv-loop μ-loop
 unfolding firstFrom
 loop-holds c = search needs
-
-mul-f : tie.Need-mul-f Inv-loop μ-loop
-mul-f c = search needs
-
-element-copy-out-f : tie.Need-element-copy-out-f Inv-loop μ-loop
-element-copy-out-f c = search needs
 
 returns : tie.Need-returns Inv-loop μ-loop
 returns c = let plan = c .before .before .before .before .before .before .args .t1 in
     let long = faults-long plan (c .before .before .before .before .before .before .good .0) in
     fault-here _ _ _ _ (first-next (plan .count) (plan .faults) _ noFault (omega arith)) (c .if1 .taken) ∙ c .before .before .before .before .loop .inv .2
-
-add-i : tie.Need-add-i Inv-loop μ-loop
-add-i c = search needs
-
-loop-less : tie.Need-loop-less Inv-loop μ-loop
-loop-less c = search needs
 
 loop-again : tie.Need-loop-again Inv-loop μ-loop
 loop-again c = let plan = c .before .before .before .before .before .before .args .t1 in
@@ -54,16 +39,5 @@ returns-2 c = let plan = c .before .before .before .args .t1 in
 
 pub fault-at-spec : {M : Type 1} → statement M
 fault-at-spec =
-    tie.close
-    (tie.spec
-    Inv-loop
-    μ-loop
-    clipped-requires
-    loop-holds
-    mul-f
-    element-copy-out-f
-    returns
-    add-i
-    loop-less
-    loop-again
-    returns-2)
+    tie.close (tie.spec Inv-loop μ-loop (λ c κs. search needs) loop-holds (λ c. search needs) (λ c. search needs) returns (λ c. search needs)
+    (λ c. search needs) loop-again returns-2)

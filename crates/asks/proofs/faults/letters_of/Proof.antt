@@ -17,40 +17,19 @@ Inv-loop plan at₀ i₀ at i = (i ≤ min (plan .count) faultLimit) × (at ≡ 
 abbrev μ-loop : tie.MeasureT-loop
 μ-loop plan at₀ i₀ at i = i
 
-clipped-requires : tie.Need-clipped-requires Inv-loop μ-loop
-clipped-requires c κs = search needs
-
 loop-holds : tie.Need-loop-holds Inv-loop μ-loop
 loop-holds c = let plan = c .before .args .t1 in
     let long = faults-long plan (c .before .good .0) in
     (omega arith, letters-none ∙ ap lettersOf (sym (first-end (plan .count) (plan .faults) _ (omega arith))))
 
-sub-i : tie.Need-sub-i Inv-loop μ-loop
-sub-i c = search needs
-
-mul-f : tie.Need-mul-f Inv-loop μ-loop
-mul-f c = search needs
-
-element-copy-out-f : tie.Need-element-copy-out-f Inv-loop μ-loop
-element-copy-out-f c = search needs
-
-cast-step : tie.Need-cast-step Inv-loop μ-loop
-cast-step c = search needs
-
 array-write-at : tie.Need-array-write-at Inv-loop μ-loop
 array-write-at c = omega arith
-
-loop-less : tie.Need-loop-less Inv-loop μ-loop
-loop-less c = search needs
 
 loop-again : tie.Need-loop-again Inv-loop μ-loop
 loop-again c = let plan = c .before .before .before .before .before .before .args .t1 in
     let long = faults-long plan (c .before .before .before .before .before .before .good .0) in
     let next = first-back (plan .count) (plan .faults) (c .before .before .before .before .loop .i) noFault (omega arith) (omega arith) in
     (omega arith, letters-in _ _ _ _ next (c .before .before .before .before .loop .inv .1))
-
-loop-less-2 : tie.Need-loop-less-2 Inv-loop μ-loop
-loop-less-2 c = search needs
 
 loop-again-2 : tie.Need-loop-again-2 Inv-loop μ-loop
 loop-again-2 c = let plan = c .before .before .before .before .before .before .args .t1 in
@@ -64,19 +43,5 @@ returns c = let e : c .before .loop .i ≡ 0 = omega arith in letters-are _ _ (r
 
 pub letters-of-spec : {M : Type 1} → statement M
 letters-of-spec =
-    tie.close
-    (tie.spec
-    Inv-loop
-    μ-loop
-    clipped-requires
-    loop-holds
-    sub-i
-    mul-f
-    element-copy-out-f
-    cast-step
-    array-write-at
-    loop-less
-    loop-again
-    loop-less-2
-    loop-again-2
-    returns)
+    tie.close (tie.spec Inv-loop μ-loop (λ c κs. search needs) loop-holds (λ c. search needs) (λ c. search needs) (λ c. search needs)
+    (λ c. search needs) array-write-at (λ c. search needs) loop-again (λ c. search needs) loop-again-2 returns)

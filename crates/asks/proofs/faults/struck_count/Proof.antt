@@ -4,11 +4,8 @@ use borrow.Author.Needs.{needs}
 use Rattle.asks.proofs.faults.struck_count.Statement.{statement}
 use Rattle.asks.proofs.faults.struck_count.Tie as tie
 
-fault-at-requires : tie.Need-fault-at-requires
-fault-at-requires c κs = search needs
-
 returns : tie.Need-returns
 returns c = ap (λ f. f .k) (c .fault-at .ensures)
 
 pub struck-count-spec : {M : Type 1} → statement M
-struck-count-spec = tie.close (tie.spec fault-at-requires returns)
+struck-count-spec = tie.close (tie.spec (λ c κs. search needs) returns)

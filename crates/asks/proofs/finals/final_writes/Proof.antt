@@ -18,23 +18,8 @@ Inv-loop x n writes at₀ count₀ i₀ at count i = (i ≤ n) × (n ≡ min (x 
 abbrev μ-loop : tie.MeasureT-loop
 μ-loop x n writes at₀ count₀ i₀ at count i = n - i
 
-clipped-requires : tie.Need-clipped-requires Inv-loop μ-loop
-clipped-requires c κs = search needs
-
 loop-holds : tie.Need-loop-holds Inv-loop μ-loop
 loop-holds c = (omega arith, omega arith, refl, laid-none _)
-
-mul-w : tie.Need-mul-w Inv-loop μ-loop
-mul-w c = search needs
-
-array-copy-out-w : tie.Need-array-copy-out-w Inv-loop μ-loop
-array-copy-out-w c = search needs
-
-add-i : tie.Need-add-i Inv-loop μ-loop
-add-i c = search needs
-
-unwritten-from-requires : tie.Need-unwritten-from-requires Inv-loop μ-loop
-unwritten-from-requires c κs = search needs
 
 mul-at : tie.Need-mul-at Inv-loop μ-loop
 mul-at c = let few = c .before .before .before .before .loop .inv .3 .few in omega arith
@@ -42,19 +27,10 @@ mul-at c = let few = c .before .before .before .before .loop .inv .3 .few in ome
 array-set-from-at : tie.Need-array-set-from-at Inv-loop μ-loop
 array-set-from-at c = let few = c .before .before .before .before .loop .inv .3 .few in omega arith
 
-add-count : tie.Need-add-count Inv-loop μ-loop
-add-count c = search needs
-
-loop-less : tie.Need-loop-less Inv-loop μ-loop
-loop-less c = search needs
-
 loop-again : tie.Need-loop-again Inv-loop μ-loop
 loop-again c = let x = c .before .before .before .before .before .before .before .args .x in
     let long = writes-long x (c .before .before .before .before .before .before .before .good .0) in
     (omega arith, omega arith, refl, laid-here x _ _ _ _ (c .before .before .before .before .loop .inv .3) (first-next (x .«write_count») (x .writes) _ noWrite (omega arith)) (omega arith) (not-true _ (sym (c .before .unwritten-from .ensures) ∙ c .if1 .taken)))
-
-loop-less-2 : tie.Need-loop-less-2 Inv-loop μ-loop
-loop-less-2 c = search needs
 
 loop-again-2 : tie.Need-loop-again-2 Inv-loop μ-loop
 loop-again-2 c = let x = c .before .before .before .before .before .before .before .args .x in
@@ -68,21 +44,5 @@ returns c = let x = c .before .before .before .before .args .x in
 
 pub final-writes-spec : {M : Type 1} → statement M
 final-writes-spec =
-    tie.close
-    (tie.spec
-    Inv-loop
-    μ-loop
-    clipped-requires
-    loop-holds
-    mul-w
-    array-copy-out-w
-    add-i
-    unwritten-from-requires
-    mul-at
-    array-set-from-at
-    add-count
-    loop-less
-    loop-again
-    loop-less-2
-    loop-again-2
-    returns)
+    tie.close (tie.spec Inv-loop μ-loop (λ c κs. search needs) loop-holds (λ c. search needs) (λ c. search needs) (λ c. search needs)
+    (λ c κs. search needs) mul-at array-set-from-at (λ c. search needs) (λ c. search needs) loop-again (λ c. search needs) loop-again-2 returns)

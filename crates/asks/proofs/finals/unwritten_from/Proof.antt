@@ -20,28 +20,10 @@ Inv-loop count from row writes n i₀ i = (n ≡ min count writeLimit) × (any (
 abbrev μ-loop : tie.MeasureT-loop
 μ-loop count from row writes n i₀ i = n - i
 
-clipped-requires : tie.Need-clipped-requires Inv-loop μ-loop
-clipped-requires c κs = search needs
-
-loop-holds : tie.Need-loop-holds Inv-loop μ-loop
-loop-holds c = search needs
-
-mul-w : tie.Need-mul-w Inv-loop μ-loop
-mul-w c = search needs
-
-array-copy-out-w : tie.Need-array-copy-out-w Inv-loop μ-loop
-array-copy-out-w c = search needs
-
 returns : tie.Need-returns Inv-loop μ-loop
 unfolding ofRow
 returns c = let long : length (c .before .before .before .before .before .before .before .args .t1) ≡ writeLimit = c .before .before .before .before .before .before .before .good .0 .1 .0 .1 in
     ap not (sym (any-first _ _ _ _ (first-next (c .before .before .before .before .before .before .before .args .count) (c .before .before .before .before .before .before .before .args .t1) _ noWrite (omega arith)) (eq-eqb _ _ (c .if1 .taken))) ∙ c .before .before .before .before .before .loop .inv .1)
-
-add-i : tie.Need-add-i Inv-loop μ-loop
-add-i c = search needs
-
-loop-less : tie.Need-loop-less Inv-loop μ-loop
-loop-less c = search needs
 
 loop-again : tie.Need-loop-again Inv-loop μ-loop
 unfolding ofRow
@@ -54,16 +36,5 @@ returns-2 c = let long : length (c .before .before .before .args .t1) ≡ writeL
 
 pub unwritten-from-spec : {M : Type 1} → statement M
 unwritten-from-spec =
-    tie.close
-    (tie.spec
-    Inv-loop
-    μ-loop
-    clipped-requires
-    loop-holds
-    mul-w
-    array-copy-out-w
-    returns
-    add-i
-    loop-less
-    loop-again
-    returns-2)
+    tie.close (tie.spec Inv-loop μ-loop (λ c κs. search needs) (λ c. search needs) (λ c. search needs) (λ c. search needs) returns (λ c. search needs)
+    (λ c. search needs) loop-again returns-2)

@@ -19,36 +19,15 @@ Inv-loop heads locked owner active x n i₀ i = (i ≤ n) × (n ≡ min (x .«wr
 abbrev μ-loop : tie.MeasureT-loop
 μ-loop heads locked owner active x n i₀ i = n - i
 
-clipped-requires : tie.Need-clipped-requires Inv-loop μ-loop
-clipped-requires c κs = search needs
-
 loop-holds : tie.Need-loop-holds Inv-loop μ-loop
 unfolding rowLockConflictOf firstFrom
 loop-holds c = search needs
-
-mul-w : tie.Need-mul-w Inv-loop μ-loop
-mul-w c = search needs
-
-element-copy-out-w : tie.Need-element-copy-out-w Inv-loop μ-loop
-element-copy-out-w c = search needs
-
-head-of-requires : tie.Need-head-of-requires Inv-loop μ-loop
-head-of-requires c κs = search needs
-
-locked-by-another-requires : tie.Need-locked-by-another-requires Inv-loop μ-loop
-locked-by-another-requires c κs = search needs
 
 returns : tie.Need-returns Inv-loop μ-loop
 unfolding headLocked
 returns c = let x = c .before .before .before .before .before .before .before .before .args .t5 in
     let long = writes-long x (c .before .before .before .before .before .before .before .before .good .1 .1 .1 .1 .0) in
     sym (any-first _ _ _ _ (first-next (x .«write_count») (x .writes) _ noWrite (omega arith)) (rw (← c .before .before .before .head-of .ensures, ← c .before .locked-by-another .ensures) (c .if1 .taken))) ∙ c .before .before .before .before .before .before .loop .inv .2
-
-add-i : tie.Need-add-i Inv-loop μ-loop
-add-i c = search needs
-
-loop-less : tie.Need-loop-less Inv-loop μ-loop
-loop-less c = search needs
 
 loop-again : tie.Need-loop-again Inv-loop μ-loop
 unfolding headLocked
@@ -63,18 +42,5 @@ returns-2 c = let x = c .before .before .before .args .t5 in
 
 pub has-row-lock-conflict-spec : {M : Type 1} → statement M
 has-row-lock-conflict-spec =
-    tie.close
-    (tie.spec
-    Inv-loop
-    μ-loop
-    clipped-requires
-    loop-holds
-    mul-w
-    element-copy-out-w
-    head-of-requires
-    locked-by-another-requires
-    returns
-    add-i
-    loop-less
-    loop-again
-    returns-2)
+    tie.close (tie.spec Inv-loop μ-loop (λ c κs. search needs) loop-holds (λ c. search needs) (λ c. search needs) (λ c κs. search needs)
+    (λ c κs. search needs) returns (λ c. search needs) (λ c. search needs) loop-again returns-2)

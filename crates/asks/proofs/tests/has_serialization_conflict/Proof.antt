@@ -21,32 +21,14 @@ Inv-loop xmin xmax x n i₀ i = (i ≤ n) × (n ≡ min (x .«read_count») read
 abbrev μ-loop : tie.MeasureT-loop
 μ-loop xmin xmax x n i₀ i = n - i
 
-clipped-requires : tie.Need-clipped-requires Inv-loop μ-loop
-clipped-requires c κs = search needs
-
 loop-holds : tie.Need-loop-holds Inv-loop μ-loop
 unfolding firstFrom
 loop-holds c = (omega arith, omega arith, serialization-of _ _ _)
-
-mul-e : tie.Need-mul-e Inv-loop μ-loop
-mul-e c = search needs
-
-element-copy-out-e : tie.Need-element-copy-out-e Inv-loop μ-loop
-element-copy-out-e c = search needs
-
-read-conflict-requires : tie.Need-read-conflict-requires Inv-loop μ-loop
-read-conflict-requires c κs = search needs
 
 returns : tie.Need-returns Inv-loop μ-loop
 returns c = let x = c .before .before .before .before .before .before .before .before .before .before .args .t3 in
     let long = reads-long x (c .before .before .before .before .before .before .before .before .before .before .good .1 .1 .0) in
     sym (any-first _ _ _ _ (first-next (x .«read_count») (x .reads) _ noRead (omega arith)) (rw (← array-same activeLimit 0 (x .snapshot) (snapshot-long x (c .before .before .before .before .before .before .before .before .before .before .good .1 .1 .0)), ← c .before .read-conflict .ensures) (c .if1 .taken))) ∙ c .before .before .before .before .before .before .before .before .loop .inv .2
-
-add-i : tie.Need-add-i Inv-loop μ-loop
-add-i c = search needs
-
-loop-less : tie.Need-loop-less Inv-loop μ-loop
-loop-less c = search needs
 
 loop-again : tie.Need-loop-again Inv-loop μ-loop
 loop-again c = let x = c .before .before .before .before .before .before .before .before .before .before .args .t3 in
@@ -60,17 +42,5 @@ returns-2 c = let x = c .before .before .before .args .t3 in
 
 pub has-serialization-conflict-spec : {M : Type 1} → statement M
 has-serialization-conflict-spec =
-    tie.close
-    (tie.spec
-    Inv-loop
-    μ-loop
-    clipped-requires
-    loop-holds
-    mul-e
-    element-copy-out-e
-    read-conflict-requires
-    returns
-    add-i
-    loop-less
-    loop-again
-    returns-2)
+    tie.close (tie.spec Inv-loop μ-loop (λ c κs. search needs) loop-holds (λ c. search needs) (λ c. search needs) (λ c κs. search needs) returns
+    (λ c. search needs) (λ c. search needs) loop-again returns-2)

@@ -22,27 +22,9 @@ Inv-loop heads x n writes i₀ i = (i ≤ n) × (n ≡ min (x .«write_count») 
 abbrev μ-loop : tie.MeasureT-loop
 μ-loop heads x n writes i₀ i = n - i
 
-clipped-requires : tie.Need-clipped-requires Inv-loop μ-loop
-clipped-requires c κs = search needs
-
 loop-holds : tie.Need-loop-holds Inv-loop μ-loop
 unfolding firstFrom finals
 loop-holds c = (omega arith, omega arith, refl, refl)
-
-mul-w : tie.Need-mul-w Inv-loop μ-loop
-mul-w c = search needs
-
-array-copy-out-w : tie.Need-array-copy-out-w Inv-loop μ-loop
-array-copy-out-w c = search needs
-
-add-i : tie.Need-add-i Inv-loop μ-loop
-add-i c = search needs
-
-unwritten-from-requires : tie.Need-unwritten-from-requires Inv-loop μ-loop
-unwritten-from-requires c κs = search needs
-
-head-of-requires : tie.Need-head-of-requires Inv-loop μ-loop
-head-of-requires c κs = search needs
 
 returns : tie.Need-returns Inv-loop μ-loop
 unfolding baseMoved
@@ -53,9 +35,6 @@ returns c =
     let here = final-here _ _ _ (first-next (x .«write_count») (x .writes) _ noWrite (omega arith)) (not-true _ (sym (u .before .unwritten-from .ensures) ∙ u .if1 .taken)) in
     sym (any-first _ _ _ _ here (rw (← c .before .before .before .head-of .ensures, ne-eqb _ _ (c .if2 .taken)))) ∙ u .before .before .before .before .loop .inv .3 ∙ write-base-of _ x
 
-loop-less : tie.Need-loop-less Inv-loop μ-loop
-loop-less c = search needs
-
 loop-again : tie.Need-loop-again Inv-loop μ-loop
 unfolding baseMoved
 loop-again c =
@@ -64,9 +43,6 @@ loop-again c =
     let long = writes-long x (u .before .before .before .before .before .before .before .good .1 .0) in
     let here = final-here _ _ _ (first-next (x .«write_count») (x .writes) _ noWrite (omega arith)) (not-true _ (sym (u .before .unwritten-from .ensures) ∙ u .if1 .taken)) in
     (omega arith, omega arith, refl, sym (any-rest _ _ _ _ here (rw (← c .before .before .before .head-of .ensures, eq-eqb _ _ (c .if2 .left)))) ∙ u .before .before .before .before .loop .inv .3)
-
-loop-less-2 : tie.Need-loop-less-2 Inv-loop μ-loop
-loop-less-2 c = search needs
 
 loop-again-2 : tie.Need-loop-again-2 Inv-loop μ-loop
 loop-again-2 c =
@@ -83,20 +59,5 @@ returns-2 c =
 
 pub has-write-base-conflict-spec : {M : Type 1} → statement M
 has-write-base-conflict-spec =
-    tie.close
-    (tie.spec
-    Inv-loop
-    μ-loop
-    clipped-requires
-    loop-holds
-    mul-w
-    array-copy-out-w
-    add-i
-    unwritten-from-requires
-    head-of-requires
-    returns
-    loop-less
-    loop-again
-    loop-less-2
-    loop-again-2
-    returns-2)
+    tie.close (tie.spec Inv-loop μ-loop (λ c κs. search needs) loop-holds (λ c. search needs) (λ c. search needs) (λ c. search needs)
+    (λ c κs. search needs) (λ c κs. search needs) returns (λ c. search needs) loop-again (λ c. search needs) loop-again-2 returns-2)

@@ -24,33 +24,15 @@ abbrev μ-loop : tie.MeasureT-loop
 returns : tie.Need-returns Inv-loop μ-loop
 returns c = index-conflict-set _ _ (c .if1 .taken)
 
-clipped-requires : tie.Need-clipped-requires Inv-loop μ-loop
-clipped-requires c κs = search needs
-
 loop-holds : tie.Need-loop-holds Inv-loop μ-loop
 unfolding firstFrom
 loop-holds c = (omega arith, omega arith, index-read-of _ _ (c .before .if1 .left))
-
-mul-e : tie.Need-mul-e Inv-loop μ-loop
-mul-e c = search needs
-
-element-copy-out-e : tie.Need-element-copy-out-e Inv-loop μ-loop
-element-copy-out-e c = search needs
-
-stamp-at-requires : tie.Need-stamp-at-requires Inv-loop μ-loop
-stamp-at-requires c κs = search needs
 
 returns-2 : tie.Need-returns-2 Inv-loop μ-loop
 unfolding stampMoved
 returns-2 c = let x = c .before .before .before .before .before .before .before .before .before .args .t2 in
     let long = index-reads-long x (c .before .before .before .before .before .before .before .before .before .good .1 .0) in
     sym (any-first _ _ _ _ (first-next (x .«index_read_count») (x .«index_reads») _ noIndexRead (omega arith)) (rw (← c .before .before .before .stamp-at .ensures, ne-eqb _ _ (c .if2 .taken)))) ∙ c .before .before .before .before .before .before .loop .inv .2
-
-add-i : tie.Need-add-i Inv-loop μ-loop
-add-i c = search needs
-
-loop-less : tie.Need-loop-less Inv-loop μ-loop
-loop-less c = search needs
 
 loop-again : tie.Need-loop-again Inv-loop μ-loop
 unfolding stampMoved
@@ -65,18 +47,5 @@ returns-3 c = let x = c .before .before .before .before .args .t2 in
 
 pub index-read-conflict-spec : {M : Type 1} → statement M
 index-read-conflict-spec =
-    tie.close
-    (tie.spec
-    Inv-loop
-    μ-loop
-    returns
-    clipped-requires
-    loop-holds
-    mul-e
-    element-copy-out-e
-    stamp-at-requires
-    returns-2
-    add-i
-    loop-less
-    loop-again
-    returns-3)
+    tie.close (tie.spec Inv-loop μ-loop returns (λ c κs. search needs) loop-holds (λ c. search needs) (λ c. search needs) (λ c κs. search needs)
+    returns-2 (λ c. search needs) (λ c. search needs) loop-again returns-3)

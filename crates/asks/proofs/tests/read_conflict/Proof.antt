@@ -6,15 +6,9 @@ use borrow.Author.Needs.{needs}
 use Rattle.asks.proofs.tests.read_conflict.Statement.{statement}
 use Rattle.asks.proofs.tests.read_conflict.Tie as tie
 
-txid-at-requires : tie.Need-txid-at-requires
-txid-at-requires c κs = search needs
-
 returns : tie.Need-returns
 unfolding readConflictOf
 returns c = rw (← c .before .before .before .txid-at .ensures, ne-eqb _ _ (c .if1 .taken))
-
-txid-at-requires-2 : tie.Need-txid-at-requires-2
-txid-at-requires-2 c κs = search needs
 
 returns-2 : tie.Need-returns-2
 unfolding readConflictOf
@@ -28,22 +22,10 @@ returns-4 : tie.Need-returns-4
 unfolding readConflictOf
 returns-4 c = rw (← c .before .before .before .before .before .before .before .before .before .before .before .before .txid-at .ensures, eq-eqb _ _ (c .before .before .before .before .before .before .before .before .before .if1 .left), ← c .before .before .before .before .before .before .before .before .txid-at2 .ensures, ne-eqb _ _ (c .before .before .before .before .before .before .if2 .left), ne-eqb _ _ (c .before .before .before .if3 .left), le-leb _ _ (c .if4 .taken))
 
-in-snapshot-requires : tie.Need-in-snapshot-requires
-in-snapshot-requires c κs = search needs
-
 returns-5 : tie.Need-returns-5
 unfolding readConflictOf
 returns-5 c = rw (← c .before .before .before .before .before .before .before .before .before .before .before .before .before .txid-at .ensures, eq-eqb _ _ (c .before .before .before .before .before .before .before .before .before .before .if1 .left), ← c .before .before .before .before .before .before .before .before .before .txid-at2 .ensures, ne-eqb _ _ (c .before .before .before .before .before .before .before .if2 .left), ne-eqb _ _ (c .before .before .before .before .if3 .left), lt-leb _ _ (c .before .if4 .left)) (c .in-snapshot .ensures)
 
 pub read-conflict-spec : {M : Type 1} → statement M
 read-conflict-spec =
-    tie.close
-    (tie.spec
-    txid-at-requires
-    returns
-    txid-at-requires-2
-    returns-2
-    returns-3
-    returns-4
-    in-snapshot-requires
-    returns-5)
+    tie.close (tie.spec (λ c κs. search needs) returns (λ c κs. search needs) returns-2 returns-3 returns-4 (λ c κs. search needs) returns-5)

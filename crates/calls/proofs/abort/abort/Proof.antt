@@ -12,26 +12,11 @@ use borrow.Author.Needs.{needs}
 use Rattle.calls.proofs.abort.abort.Statement.{statement}
 use Rattle.calls.proofs.abort.abort.Tie as tie
 
-admitted-requires : tie.Need-admitted-requires
-admitted-requires c κs = search needs
-
-is-done-requires : tie.Need-is-done-requires
-is-done-requires c κs = search needs
-
 returns : tie.Need-returns
 returns c =
     let t = c .before in
     let s = t .before .before in
     abort-refused (s .args .t1) (s .args .x) (t .before .admitted .ensures) (sym (t .is-done .ensures) ∙ not-true _ (c .if1 .taken))
-
-plan-abort-requires : tie.Need-plan-abort-requires
-plan-abort-requires c κs = search needs
-
-only-txid-requires : tie.Need-only-txid-requires
-only-txid-requires c κs = search needs
-
-apply-requires : tie.Need-apply-requires
-apply-requires c κs = search needs
 
 returns-2 : tie.Need-returns-2
 returns-2 c =
@@ -46,12 +31,5 @@ returns-2 c =
 
 pub abort-spec : {M : Type 1} → statement M
 abort-spec =
-    tie.close
-    (tie.spec
-    admitted-requires
-    is-done-requires
-    returns
-    plan-abort-requires
-    only-txid-requires
-    apply-requires
+    tie.close (tie.spec (λ c κs. search needs) (λ c κs. search needs) returns (λ c κs. search needs) (λ c κs. search needs) (λ c κs. search needs)
     returns-2)

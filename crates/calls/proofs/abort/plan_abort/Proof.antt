@@ -9,19 +9,10 @@ use borrow.Author.Needs.{needs}
 use Rattle.calls.proofs.abort.plan_abort.Statement.{statement}
 use Rattle.calls.proofs.abort.plan_abort.Tie as tie
 
-walk-all-requires : tie.Need-walk-all-requires
-walk-all-requires c κs = search needs
-
-push-own-requires : tie.Need-push-own-requires
-push-own-requires c κs = search needs
-
-push-requires : tie.Need-push-requires
-push-requires c κs = search needs
-
 returns : tie.Need-returns
 returns c = let a = c .before .before .before .before .before .before .before .args in
     rw (← (frees-then (a .heads .now) (a .next .now) (a .xmin .now) _ (a .t .0) (ap (λ (w : Walk). w .seen) (c .before .before .before .before .before .walk-all .ensures))))
     (adds-then (c .before .before .push-own .ensures) (adds-push (kept-wide _ (lit≤ tt) (lit< tt) refl) (c .push .ensures)))
 
 pub plan-abort-spec : {M : Type 1} → statement M
-plan-abort-spec = tie.close (tie.spec walk-all-requires push-own-requires push-requires returns)
+plan-abort-spec = tie.close (tie.spec (λ c κs. search needs) (λ c κs. search needs) (λ c κs. search needs) returns)

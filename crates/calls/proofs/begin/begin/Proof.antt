@@ -10,18 +10,6 @@ use borrow.Author.Needs.{needs}
 use Rattle.calls.proofs.begin.begin.Statement.{statement}
 use Rattle.calls.proofs.begin.begin.Tie as tie
 
-resting-requires : tie.Need-resting-requires
-resting-requires c κs = search needs
-
-begin-refusal-requires : tie.Need-begin-refusal-requires
-begin-refusal-requires c κs = search needs
-
-is-done-requires : tie.Need-is-done-requires
-is-done-requires c κs = search needs
-
-zero-requires : tie.Need-zero-requires
-zero-requires c κs = search needs
-
 returns : tie.Need-returns
 returns c =
     let t = c .before .before in
@@ -30,12 +18,6 @@ returns c =
 
 plan-begin-requires : tie.Need-plan-begin-requires
 plan-begin-requires c κs = let t = c .before .before in begin-clock _ _ _ _ _ (t .before .begin-refusal .ensures) (sym (t .is-done .ensures) ∙ not-false _ (c .before .if1 .left))
-
-begun-requires : tie.Need-begun-requires
-begun-requires c κs = search needs
-
-apply-requires : tie.Need-apply-requires
-apply-requires c κs = search needs
 
 returns-2 : tie.Need-returns-2
 returns-2 c =
@@ -47,14 +29,5 @@ returns-2 c =
 
 pub begin-spec : {M : Type 1} → statement M
 begin-spec =
-    tie.close
-    (tie.spec
-    resting-requires
-    begin-refusal-requires
-    is-done-requires
-    zero-requires
-    returns
-    plan-begin-requires
-    begun-requires
-    apply-requires
-    returns-2)
+    tie.close (tie.spec (λ c κs. search needs) (λ c κs. search needs) (λ c κs. search needs) (λ c κs. search needs) returns plan-begin-requires
+    (λ c κs. search needs) (λ c κs. search needs) returns-2)

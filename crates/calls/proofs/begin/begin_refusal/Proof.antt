@@ -14,9 +14,6 @@ returns-2 : tie.Need-returns-2
 unfolding beginTries
 returns-2 c = rw (c .before .if1 .left, c .if2 .taken)
 
-active-count-requires : tie.Need-active-count-requires
-active-count-requires c κs = search needs
-
 returns-3 : tie.Need-returns-3
 unfolding beginTries
 returns-3 c = rw (c .before .before .before .if1 .left, c .before .before .if2 .left, ← (c .before .active-count .ensures), le-leb activeLimit _ (c .if3 .taken))
@@ -30,5 +27,4 @@ unfolding beginTries
 returns-5 c = rw (c .before .before .before .before .if1 .left, c .before .before .before .if2 .left, ← (c .before .before .active-count .ensures), lt-leb activeLimit _ (c .before .if3 .left), lt-leb clockEnd _ (c .if4 .left))
 
 pub begin-refusal-spec : {M : Type 1} → statement M
-begin-refusal-spec =
-    tie.close (tie.spec returns returns-2 active-count-requires returns-3 returns-4 returns-5)
+begin-refusal-spec = tie.close (tie.spec returns returns-2 (λ c κs. search needs) returns-3 returns-4 returns-5)

@@ -8,17 +8,8 @@ use borrow.Author.Needs.{needs}
 use Rattle.calls.proofs.begin.plan_begin.Statement.{statement}
 use Rattle.calls.proofs.begin.plan_begin.Tie as tie
 
-push-requires : tie.Need-push-requires
-push-requires c κs = search needs
-
-add-push : tie.Need-add-push
-add-push c = search needs
-
-push-requires-2 : tie.Need-push-requires-2
-push-requires-2 c κs = search needs
-
 returns : tie.Need-returns
 returns c = rw (← (add-one (c .before .before .before .before .args .clock))) (adds-then (adds-push (kept-wide _ (lit≤ tt) (lit< tt) refl) (c .before .before .push .ensures)) (adds-push (kept-wide _ (lit≤ tt) (lit< tt) refl) (c .push2 .ensures)))
 
 pub plan-begin-spec : {M : Type 1} → statement M
-plan-begin-spec = tie.close (tie.spec push-requires add-push push-requires-2 returns)
+plan-begin-spec = tie.close (tie.spec (λ c κs. search needs) (λ c. search needs) (λ c κs. search needs) returns)

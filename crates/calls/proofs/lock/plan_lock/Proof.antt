@@ -7,14 +7,8 @@ use borrow.Author.Needs.{needs}
 use Rattle.calls.proofs.lock.plan_lock.Statement.{statement}
 use Rattle.calls.proofs.lock.plan_lock.Tie as tie
 
-cast-push : tie.Need-cast-push
-cast-push c = search needs
-
-push-requires : tie.Need-push-requires
-push-requires c κs = search needs
-
 returns : tie.Need-returns
 returns c = λ low. adds-push (kept-wide _ (lit≤ tt) low refl) (c .push .ensures)
 
 pub plan-lock-spec : {M : Type 1} → statement M
-plan-lock-spec = tie.close (tie.spec cast-push push-requires returns)
+plan-lock-spec = tie.close (tie.spec (λ c. search needs) (λ c κs. search needs) returns)

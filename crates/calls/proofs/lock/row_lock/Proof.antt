@@ -11,24 +11,6 @@ use borrow.Author.Needs.{needs}
 use Rattle.calls.proofs.lock.row_lock.Statement.{statement}
 use Rattle.calls.proofs.lock.row_lock.Tie as tie
 
-head-of-requires : tie.Need-head-of-requires
-head-of-requires c κs = search needs
-
-locked-by-another-requires : tie.Need-locked-by-another-requires
-locked-by-another-requires c κs = search needs
-
-admitted-requires : tie.Need-admitted-requires
-admitted-requires c κs = search needs
-
-healthy-requires : tie.Need-healthy-requires
-healthy-requires c κs = search needs
-
-lock-refusal-requires : tie.Need-lock-refusal-requires
-lock-refusal-requires c κs = search needs
-
-is-done-requires : tie.Need-is-done-requires
-is-done-requires c κs = search needs
-
 returns : tie.Need-returns
 returns c =
     let t = c .before in
@@ -36,12 +18,6 @@ returns c =
     let h = l .before .before .before .before .before in
     let s = h .before .before .before in
     lock-refused (s .args .t1) (s .args .x) _ (sized (s .args .t1) (s .good .0)) (h .head-of .ensures) (l .locked-by-another .ensures) (t .before .before .before .admitted .ensures) (t .before .before .healthy .ensures) (t .before .lock-refusal .ensures) (sym (t .is-done .ensures) ∙ not-true _ (c .if1 .taken))
-
-plan-lock-requires : tie.Need-plan-lock-requires
-plan-lock-requires c κs = search needs
-
-apply-requires : tie.Need-apply-requires
-apply-requires c κs = search needs
 
 returns-2 : tie.Need-returns-2
 returns-2 c =
@@ -55,15 +31,5 @@ returns-2 c =
 
 pub row-lock-spec : {M : Type 1} → statement M
 row-lock-spec =
-    tie.close
-    (tie.spec
-    head-of-requires
-    locked-by-another-requires
-    admitted-requires
-    healthy-requires
-    lock-refusal-requires
-    is-done-requires
-    returns
-    plan-lock-requires
-    apply-requires
-    returns-2)
+    tie.close (tie.spec (λ c κs. search needs) (λ c κs. search needs) (λ c κs. search needs) (λ c κs. search needs) (λ c κs. search needs)
+    (λ c κs. search needs) returns (λ c κs. search needs) (λ c κs. search needs) returns-2)

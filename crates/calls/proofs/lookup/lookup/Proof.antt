@@ -7,24 +7,6 @@ use borrow.Author.Needs.{needs}
 use Rattle.calls.proofs.lookup.lookup.Statement.{statement}
 use Rattle.calls.proofs.lookup.lookup.Tie as tie
 
-candidates-requires : tie.Need-candidates-requires
-candidates-requires c κs = search needs
-
-record-marked-requires : tie.Need-record-marked-requires
-record-marked-requires c κs = search needs
-
-admitted-requires : tie.Need-admitted-requires
-admitted-requires c κs = search needs
-
-healthy-requires : tie.Need-healthy-requires
-healthy-requires c κs = search needs
-
-lookup-refusal-requires : tie.Need-lookup-refusal-requires
-lookup-refusal-requires c κs = search needs
-
-is-done-requires : tie.Need-is-done-requires
-is-done-requires c κs = search needs
-
 returns : tie.Need-returns
 returns c =
     let t = c .before in
@@ -32,12 +14,6 @@ returns c =
     let m = l .before .before .before .before .before .before in
     let s = m .before .before .before in
     lookup-refused (s .args .t1) (s .args .x) _ (sized (s .args .t1) (s .good .0)) (m .candidates .ensures) (l .record-marked .ensures) (t .before .before .before .admitted .ensures) (t .before .before .healthy .ensures) (t .before .lookup-refusal .ensures) (sym (t .is-done .ensures) ∙ not-true _ (c .if1 .taken))
-
-matching-requires : tie.Need-matching-requires
-matching-requires c κs = search needs
-
-looked-requires : tie.Need-looked-requires
-looked-requires c κs = search needs
 
 returns-2 : tie.Need-returns-2
 returns-2 c =
@@ -52,15 +28,5 @@ returns-2 c =
 
 pub lookup-spec : {M : Type 1} → statement M
 lookup-spec =
-    tie.close
-    (tie.spec
-    candidates-requires
-    record-marked-requires
-    admitted-requires
-    healthy-requires
-    lookup-refusal-requires
-    is-done-requires
-    returns
-    matching-requires
-    looked-requires
-    returns-2)
+    tie.close (tie.spec (λ c κs. search needs) (λ c κs. search needs) (λ c κs. search needs) (λ c κs. search needs) (λ c κs. search needs)
+    (λ c κs. search needs) returns (λ c κs. search needs) (λ c κs. search needs) returns-2)

@@ -7,9 +7,6 @@ use borrow.Author.Needs.{needs}
 use Rattle.calls.proofs.lookup.lookup_refusal.Statement.{statement}
 use Rattle.calls.proofs.lookup.lookup_refusal.Tie as tie
 
-is-done-requires : tie.Need-is-done-requires
-is-done-requires c κs = search needs
-
 returns : tie.Need-returns
 returns c = unless-kept _ _ (sym (c .before .is-done .ensures) ∙ not-true _ (c .if1 .taken))
 
@@ -22,4 +19,4 @@ unfolding lookupTries
 returns-3 c = unless-more _ _ _ (sym (c .before .before .is-done .ensures) ∙ not-false _ (c .before .if1 .left)) (rw (c .if2 .left))
 
 pub lookup-refusal-spec : {M : Type 1} → statement M
-lookup-refusal-spec = tie.close (tie.spec is-done-requires returns returns-2 returns-3)
+lookup-refusal-spec = tie.close (tie.spec (λ c κs. search needs) returns returns-2 returns-3)

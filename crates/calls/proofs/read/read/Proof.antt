@@ -7,36 +7,12 @@ use borrow.Author.Needs.{needs}
 use Rattle.calls.proofs.read.read.Statement.{statement}
 use Rattle.calls.proofs.read.read.Tie as tie
 
-with-read-requires : tie.Need-with-read-requires
-with-read-requires c κs = search needs
-
-admitted-requires : tie.Need-admitted-requires
-admitted-requires c κs = search needs
-
-healthy-requires : tie.Need-healthy-requires
-healthy-requires c κs = search needs
-
-read-refusal-requires : tie.Need-read-refusal-requires
-read-refusal-requires c κs = search needs
-
-is-done-requires : tie.Need-is-done-requires
-is-done-requires c κs = search needs
-
 returns : tie.Need-returns
 returns c =
     let t = c .before in
     let l = t .before .before .before .before in
     let s = l .before .before .before .before .before in
     read-refused (s .args .t1) (s .args .x) _ (sized (s .args .t1) (s .good .0)) (l .with-read .ensures) (t .before .before .before .admitted .ensures) (t .before .before .healthy .ensures) (t .before .read-refusal .ensures) (sym (t .is-done .ensures) ∙ not-true _ (c .if1 .taken))
-
-read-ptr-requires : tie.Need-read-ptr-requires
-read-ptr-requires c κs = search needs
-
-value-at-requires : tie.Need-value-at-requires
-value-at-requires c κs = search needs
-
-with-reads-requires : tie.Need-with-reads-requires
-with-reads-requires c κs = search needs
 
 returns-2 : tie.Need-returns-2
 returns-2 c =
@@ -51,15 +27,5 @@ returns-2 c =
 
 pub read-spec : {M : Type 1} → statement M
 read-spec =
-    tie.close
-    (tie.spec
-    with-read-requires
-    admitted-requires
-    healthy-requires
-    read-refusal-requires
-    is-done-requires
-    returns
-    read-ptr-requires
-    value-at-requires
-    with-reads-requires
-    returns-2)
+    tie.close (tie.spec (λ c κs. search needs) (λ c κs. search needs) (λ c κs. search needs) (λ c κs. search needs) (λ c κs. search needs) returns
+    (λ c κs. search needs) (λ c κs. search needs) (λ c κs. search needs) returns-2)

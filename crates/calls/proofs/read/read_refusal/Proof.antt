@@ -8,9 +8,6 @@ use borrow.Author.Needs.{needs}
 use Rattle.calls.proofs.read.read_refusal.Statement.{statement}
 use Rattle.calls.proofs.read.read_refusal.Tie as tie
 
-is-done-requires : tie.Need-is-done-requires
-is-done-requires c κs = search needs
-
 returns : tie.Need-returns
 returns c = unless-kept _ _ (sym (c .before .is-done .ensures) ∙ not-true _ (c .if1 .taken))
 
@@ -27,4 +24,4 @@ unfolding readTries
 returns-4 c = unless-more _ _ _ (sym (c .before .before .before .before .is-done .ensures) ∙ not-false _ (c .before .before .before .if1 .left)) (rw (lt-leb rows _ (c .before .if2 .left), c .if3 .left))
 
 pub read-refusal-spec : {M : Type 1} → statement M
-read-refusal-spec = tie.close (tie.spec is-done-requires returns returns-2 returns-3 returns-4)
+read-refusal-spec = tie.close (tie.spec (λ c κs. search needs) returns returns-2 returns-3 returns-4)

@@ -6,9 +6,6 @@ use borrow.Author.Needs.{needs}
 use Rattle.calls.proofs.refusal.healthy.Statement.{statement}
 use Rattle.calls.proofs.refusal.healthy.Tie as tie
 
-is-done-requires : tie.Need-is-done-requires
-is-done-requires c κs = search needs
-
 returns : tie.Need-returns
 returns c = unless-kept _ _ (sym (c .before .is-done .ensures) ∙ not-true _ (c .if1 .taken))
 
@@ -21,4 +18,4 @@ unfolding poisonedTries
 returns-3 c = unless-more _ _ _ (sym (c .before .before .is-done .ensures) ∙ not-false _ (c .before .if1 .left)) (rw (c .if2 .left))
 
 pub healthy-spec : {M : Type 1} → statement M
-healthy-spec = tie.close (tie.spec is-done-requires returns returns-2 returns-3)
+healthy-spec = tie.close (tie.spec (λ c κs. search needs) returns returns-2 returns-3)

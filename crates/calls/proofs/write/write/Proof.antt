@@ -10,39 +10,12 @@ use borrow.Author.Needs.{needs}
 use Rattle.calls.proofs.write.write.Statement.{statement}
 use Rattle.calls.proofs.write.write.Tie as tie
 
-lowest-free-requires : tie.Need-lowest-free-requires
-lowest-free-requires c κs = search needs
-
-admitted-requires : tie.Need-admitted-requires
-admitted-requires c κs = search needs
-
-healthy-requires : tie.Need-healthy-requires
-healthy-requires c κs = search needs
-
-write-refusal-requires : tie.Need-write-refusal-requires
-write-refusal-requires c κs = search needs
-
-is-done-requires : tie.Need-is-done-requires
-is-done-requires c κs = search needs
-
 returns : tie.Need-returns
 returns c =
     let t = c .before in
     let f = t .before .before .before .before in
     let s = f .before .before .before in
     write-refused (s .args .t1) (s .args .x) _ (s .args .v) (sized (s .args .t1) (s .good .0)) (f .lowest-free .ensures) (t .before .before .before .admitted .ensures) (t .before .before .healthy .ensures) (t .before .write-refusal .ensures) (sym (t .is-done .ensures) ∙ not-true _ (c .if1 .taken))
-
-base-of-requires : tie.Need-base-of-requires
-base-of-requires c κs = search needs
-
-plan-write-requires : tie.Need-plan-write-requires
-plan-write-requires c κs = search needs
-
-with-write-requires : tie.Need-with-write-requires
-with-write-requires c κs = search needs
-
-apply-requires : tie.Need-apply-requires
-apply-requires c κs = search needs
 
 returns-2 : tie.Need-returns-2
 returns-2 c =
@@ -59,16 +32,5 @@ returns-2 c =
 
 pub write-spec : {M : Type 1} → statement M
 write-spec =
-    tie.close
-    (tie.spec
-    lowest-free-requires
-    admitted-requires
-    healthy-requires
-    write-refusal-requires
-    is-done-requires
-    returns
-    base-of-requires
-    plan-write-requires
-    with-write-requires
-    apply-requires
-    returns-2)
+    tie.close (tie.spec (λ c κs. search needs) (λ c κs. search needs) (λ c κs. search needs) (λ c κs. search needs) (λ c κs. search needs) returns
+    (λ c κs. search needs) (λ c κs. search needs) (λ c κs. search needs) (λ c κs. search needs) returns-2)

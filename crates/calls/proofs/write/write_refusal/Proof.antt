@@ -8,9 +8,6 @@ use borrow.Author.Needs.{needs}
 use Rattle.calls.proofs.write.write_refusal.Statement.{statement}
 use Rattle.calls.proofs.write.write_refusal.Tie as tie
 
-is-done-requires : tie.Need-is-done-requires
-is-done-requires c κs = search needs
-
 returns : tie.Need-returns
 returns c = unless-kept _ _ (sym (c .before .is-done .ensures) ∙ not-true _ (c .if1 .taken))
 
@@ -31,5 +28,4 @@ unfolding writeTries
 returns-5 c = unless-more _ _ _ (sym (c .before .before .before .before .before .before .is-done .ensures) ∙ not-false _ (c .before .before .before .before .before .if1 .left)) (rw (lt-leb rows _ (c .before .before .before .if2 .left), lt-leb writeLimit _ (c .before .before .if3 .left), ne-eqb _ 0 (c .if4 .left)))
 
 pub write-refusal-spec : {M : Type 1} → statement M
-write-refusal-spec =
-    tie.close (tie.spec is-done-requires returns returns-2 returns-3 returns-4 returns-5)
+write-refusal-spec = tie.close (tie.spec (λ c κs. search needs) returns returns-2 returns-3 returns-4 returns-5)

@@ -4,18 +4,6 @@ use borrow.Author.Needs.{needs}
 use Rattle.commit.proofs.answers.stop_at.Statement.{statement}
 use Rattle.commit.proofs.answers.stop_at.Tie as tie
 
-enum-told : tie.Need-enum-told
-enum-told c = search needs
-
-enum-known-cut : tie.Need-enum-known-cut
-enum-known-cut c = search needs
-
-cast-clipped : tie.Need-cast-clipped
-cast-clipped c = search needs
-
-clipped-requires : tie.Need-clipped-requires
-clipped-requires c κs = search needs
-
 returns : tie.Need-returns
 unfolding stopAt
 returns c = rw (c .enum-told .given .1)
@@ -25,12 +13,4 @@ unfolding stopAt
 returns-2 c = rw (c .before .before .cut .given .1) (c .clipped .ensures)
 
 pub stop-at-spec : {M : Type 1} → statement M
-stop-at-spec =
-    tie.close
-    (tie.spec
-    enum-told
-    enum-known-cut
-    cast-clipped
-    clipped-requires
-    returns
-    returns-2)
+stop-at-spec = tie.close (tie.spec (λ c. search needs) (λ c. search needs) (λ c. search needs) (λ c κs. search needs) returns returns-2)

@@ -8,15 +8,6 @@ use borrow.Author.Needs.{needs}
 use Rattle.commit.proofs.planning.plan_for.Statement.{statement}
 use Rattle.commit.proofs.planning.plan_for.Tie as tie
 
-walk-all-requires : tie.Need-walk-all-requires
-walk-all-requires c κs = search needs
-
-final-writes-requires : tie.Need-final-writes-requires
-final-writes-requires c κs = search needs
-
-plan-of-requires : tie.Need-plan-of-requires
-plan-of-requires c κs = search needs
-
 returns : tie.Need-returns
 returns c =
     λ S z h n m k b ok. c .plan-of .ensures
@@ -30,10 +21,4 @@ returns c =
     ok
 
 pub plan-for-spec : {M : Type 1} → statement M
-plan-for-spec =
-    tie.close
-    (tie.spec
-    walk-all-requires
-    final-writes-requires
-    plan-of-requires
-    returns)
+plan-for-spec = tie.close (tie.spec (λ c κs. search needs) (λ c κs. search needs) (λ c κs. search needs) returns)

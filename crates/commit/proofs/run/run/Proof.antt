@@ -8,30 +8,6 @@ use borrow.Author.Needs.{needs}
 use Rattle.commit.proofs.run.run.Statement.{statement}
 use Rattle.commit.proofs.run.run.Tie as tie
 
-plan-for-requires : tie.Need-plan-for-requires
-plan-for-requires c κs = search needs
-
-struck-of-requires : tie.Need-struck-of-requires
-struck-of-requires c κs = search needs
-
-has-writes-requires : tie.Need-has-writes-requires
-has-writes-requires c κs = search needs
-
-first-gate-requires : tie.Need-first-gate-requires
-first-gate-requires c κs = search needs
-
-push-run-requires : tie.Need-push-run-requires
-push-run-requires c κs = search needs
-
-stop-at-requires : tie.Need-stop-at-requires
-stop-at-requires c κs = search needs
-
-apply-requires : tie.Need-apply-requires
-apply-requires c κs = search needs
-
-cut-answer-requires : tie.Need-cut-answer-requires
-cut-answer-requires c κs = search needs
-
 returns : tie.Need-returns
 returns c =
     let s = c .before .before .before .before .before .before .before .before .before .before .before .before .before .before .before .before .before .before .before .before .before .before .before .before .before in
@@ -46,9 +22,6 @@ returns c =
     let g = gate-of S x logged plan _ (z .stamps) (z .heads) (z .locked) (z .owner) (z .active) (z .xmin) (z .xmax) (rw (c .before .before .before .before .before .before .before .before .before .before .before .before .before .before .before .before .has-writes .ensures) at (c .before .before .before .before .before .before .before .first-gate .ensures)) in
     let h = run-pushed S x logged plan z ok pl st g (c .before .before .before .before .before .push-run .ensures S x logged plan) in
     run-cut S x logged plan (s .args .cut) h (c .before .before .before .before .stop-at .ensures) (c .before .before .apply .ensures) (c .cut-answer .ensures) (c .before .if1 .taken)
-
-whole-answer-requires : tie.Need-whole-answer-requires
-whole-answer-requires c κs = search needs
 
 returns-2 : tie.Need-returns-2
 returns-2 c =
@@ -67,16 +40,5 @@ returns-2 c =
 
 pub run-spec : {M : Type 1} → statement M
 run-spec =
-    tie.close
-    (tie.spec
-    plan-for-requires
-    struck-of-requires
-    has-writes-requires
-    first-gate-requires
-    push-run-requires
-    stop-at-requires
-    apply-requires
-    cut-answer-requires
-    returns
-    whole-answer-requires
-    returns-2)
+    tie.close (tie.spec (λ c κs. search needs) (λ c κs. search needs) (λ c κs. search needs) (λ c κs. search needs) (λ c κs. search needs)
+    (λ c κs. search needs) (λ c κs. search needs) (λ c κs. search needs) returns (λ c κs. search needs) returns-2)

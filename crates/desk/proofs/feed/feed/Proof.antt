@@ -25,29 +25,11 @@ abbrev μ-loop : tie.MeasureT-loop
 loop-holds : tie.Need-loop-holds Inv-loop μ-loop
 loop-holds c = (omega arith, omega arith, refl, txs-long (c .before .before .before .before .before .before .args .r) (c .before .before .before .before .before .before .good .0), goes-none _ _ _)
 
-sub-if1 : tie.Need-sub-if1 Inv-loop μ-loop
-sub-if1 c = search needs
-
-shared-slice-read-b : tie.Need-shared-slice-read-b Inv-loop μ-loop
-shared-slice-read-b c = search needs
-
-add-i : tie.Need-add-i Inv-loop μ-loop
-add-i c = search needs
-
-line-in-requires : tie.Need-line-in-requires Inv-loop μ-loop
-line-in-requires c κs = search needs
-
-place-of-requires : tie.Need-place-of-requires Inv-loop μ-loop
-place-of-requires c κs = search needs
-
 mul-turn : tie.Need-mul-turn Inv-loop μ-loop
 mul-turn c = let low = place-in-below (heldIn (c .before .before .before .before .before .before .loop .held)) (c .before .line-in .ensures) (c .place-of .ensures) in search needs
 
 array-copy-out-turn : tie.Need-array-copy-out-turn Inv-loop μ-loop
 array-copy-out-turn c = place-in-below (heldIn (c .before .before .before .before .before .before .loop .held)) (c .before .line-in .ensures) (c .place-of .ensures)
-
-turn-requires : tie.Need-turn-requires Inv-loop μ-loop
-turn-requires c κs = search needs
 
 mul-txs : tie.Need-mul-txs Inv-loop μ-loop
 mul-txs c = let low = place-in-below (heldIn (c .before .before .before .before .before .before .before .before .before .before .loop .held)) (c .before .before .before .before .before .line-in .ensures) (c .before .before .before .before .place-of .ensures) in search needs
@@ -55,17 +37,8 @@ mul-txs c = let low = place-in-below (heldIn (c .before .before .before .before 
 array-set-from-txs : tie.Need-array-set-from-txs Inv-loop μ-loop
 array-set-from-txs c = place-in-below (heldIn (c .before .before .before .before .before .before .before .before .before .before .loop .held)) (c .before .before .before .before .before .line-in .ensures) (c .before .before .before .before .place-of .ensures)
 
-wrapping-add-u64-requires : tie.Need-wrapping-add-u64-requires Inv-loop μ-loop
-wrapping-add-u64-requires c κs = search needs
-
 put-answer-requires : tie.Need-put-answer-requires Inv-loop μ-loop
 put-answer-requires c κs = omega (arith, c .before .before .before .before .before .before .before .before .before .before .before .if1 .left, c .before .before .before .before .before .before .before .before .before .before .before .before .before .loop .inv .1, c .before .before .before .before .before .before .before .before .before .before .before .before .before .loop .inv .2)
-
-none-requires : tie.Need-none-requires Inv-loop μ-loop
-none-requires c κs = search needs
-
-loop-less : tie.Need-loop-less Inv-loop μ-loop
-loop-less c = search needs
 
 loop-again : tie.Need-loop-again Inv-loop μ-loop
 loop-again c =
@@ -76,55 +49,20 @@ loop-again c =
     on-feed _ _ (l .loop .i) (c .before .before .before .before .before .before .before .before .before .before .before .before .before .before .before .before .loop-test .taken) _ _ (l .loop .lines) (l .loop .inv .4) (l .loop .inv .2) (omega (arith, c .before .before .before .before .before .before .before .before .before .before .before .before .before .before .before .if1 .left, l .loop .inv .1)) (c .before .before .before .before .before .before .before .before .before .turn .result) (c .before .before .before .before .before .before .before .before .before .before .before .before .before .if2 .taken) (c .before .before .before .before .before .before .before .before .before .before .before .before .line-in .ensures) (c .before .before .before .before .before .before .before .before .before .before .before .place-of .ensures) (within (l .loop .txs) (c .before .before .before .before .before .before .before .before .before .before .before .place-of .result) _ zeroTx (omega (arith, low, l .loop .inv .3))) (c .before .before .before .before .before .before .before .before .before .turn .ensures) (c .before .before .before .before .before .wrapping-add-u64 .ensures) put (c .none .ensures) in
     (omega (arith, c .before .before .before .before .before .before .before .before .before .before .before .before .before .before .before .before .loop-test .taken), omega (arith, put .long, put .few, c .before .before .before .before .before .before .before .before .before .before .before .before .before .before .before .if1 .left, l .loop .inv .1), put .long ∙ l .loop .inv .2, simp length-set (l .loop .inv .3), g)
 
-with-byte-requires : tie.Need-with-byte-requires Inv-loop μ-loop
-with-byte-requires c κs = search needs
-
-loop-less-2 : tie.Need-loop-less-2 Inv-loop μ-loop
-loop-less-2 c = search needs
-
 loop-again-2 : tie.Need-loop-again-2 Inv-loop μ-loop
 loop-again-2 c =
     let l = c .before .before .before .before .before in
     (omega arith, omega arith, l .loop .inv .2, l .loop .inv .3, on-byte _ _ (l .loop .i) (omega arith) _ _ (l .loop .lines) (l .loop .inv .4) (l .loop .inv .2) (omega arith) (c .before .if2 .left) (c .with-byte .ensures))
 
-same-length : tie.Need-same-length Inv-loop μ-loop
-same-length c = search needs
-
 returns : tie.Need-returns Inv-loop μ-loop
 returns c = let l = c .before .loop in feeds _ (l .inv .0) (l .inv .1) (l .inv .2) (l .inv .4) (λ h. omega (arith, c .loop-test .left, l .inv .0))
-
-same-length-2 : tie.Need-same-length-2 Inv-loop μ-loop
-same-length-2 c = search needs
 
 returns-2 : tie.Need-returns-2 Inv-loop μ-loop
 returns-2 c = let l = c .before .before .loop in feeds _ (l .inv .0) (l .inv .1) (l .inv .2) (l .inv .4) (λ h. absurd (omega (arith, c .if1 .taken, l .inv .1, l .inv .2)))
 
 pub feed-spec : {M : Type 1} → statement M
 feed-spec =
-    tie.close
-    (tie.spec
-    Inv-loop
-    μ-loop
-    loop-holds
-    sub-if1
-    shared-slice-read-b
-    add-i
-    line-in-requires
-    place-of-requires
-    mul-turn
-    array-copy-out-turn
-    turn-requires
-    mul-txs
-    array-set-from-txs
-    wrapping-add-u64-requires
-    put-answer-requires
-    none-requires
-    loop-less
-    loop-again
-    with-byte-requires
-    loop-less-2
-    loop-again-2
-    same-length
-    returns
-    same-length-2
-    returns-2)
+    tie.close (tie.spec Inv-loop μ-loop loop-holds (λ c. search needs) (λ c. search needs) (λ c. search needs) (λ c κs. search needs)
+    (λ c κs. search needs) mul-turn array-copy-out-turn (λ c κs. search needs) mul-txs array-set-from-txs (λ c κs. search needs) put-answer-requires
+    (λ c κs. search needs) (λ c. search needs) loop-again (λ c κs. search needs) (λ c. search needs) loop-again-2 (λ c. search needs) returns
+    (λ c. search needs) returns-2)

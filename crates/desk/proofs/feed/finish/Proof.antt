@@ -17,29 +17,11 @@ returns c = let r = c .before .before .args .t1 in finish-none _ _ (omega (arith
 returns-2 : tie.Need-returns-2
 returns-2 c = finish-short _ _ (omega arith)
 
-line-in-requires : tie.Need-line-in-requires
-line-in-requires c κs = search needs
-
-place-of-requires : tie.Need-place-of-requires
-place-of-requires c κs = search needs
-
 mul-turn : tie.Need-mul-turn
 mul-turn c = let r = c .before .before .before .before .before .before .before .args .t1 in let low = place-in-below (heldIn (r .held)) (c .before .before .line-in .ensures) (c .before .place-of .ensures) in search needs
 
 element-copy-out-turn : tie.Need-element-copy-out-turn
 element-copy-out-turn c = let r = c .before .before .before .before .before .before .before .args .t1 in place-in-below (heldIn (r .held)) (c .before .before .line-in .ensures) (c .before .place-of .ensures)
-
-turn-requires : tie.Need-turn-requires
-turn-requires c κs = search needs
-
-wrapping-add-u64-requires : tie.Need-wrapping-add-u64-requires
-wrapping-add-u64-requires c κs = search needs
-
-put-answer-requires : tie.Need-put-answer-requires
-put-answer-requires c κs = search needs
-
-same-length : tie.Need-same-length
-same-length c = search needs
 
 returns-3 : tie.Need-returns-3
 returns-3 c =
@@ -57,16 +39,5 @@ returns-3 c =
 
 pub finish-spec : {M : Type 1} → statement M
 finish-spec =
-    tie.close
-    (tie.spec
-    returns
-    returns-2
-    line-in-requires
-    place-of-requires
-    mul-turn
-    element-copy-out-turn
-    turn-requires
-    wrapping-add-u64-requires
-    put-answer-requires
-    same-length
-    returns-3)
+    tie.close (tie.spec returns returns-2 (λ c κs. search needs) (λ c κs. search needs) mul-turn element-copy-out-turn (λ c κs. search needs)
+    (λ c κs. search needs) (λ c κs. search needs) (λ c. search needs) returns-3)

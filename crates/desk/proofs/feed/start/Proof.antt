@@ -7,18 +7,6 @@ use borrow.Author.Needs.{needs}
 use Rattle.desk.proofs.feed.start.Statement.{statement}
 use Rattle.desk.proofs.feed.start.Tie as tie
 
-fresh-requires : tie.Need-fresh-requires
-fresh-requires c κs = search needs
-
-zero-requires : tie.Need-zero-requires
-zero-requires c κs = search needs
-
-none-requires : tie.Need-none-requires
-none-requires c κs = search needs
-
-none-requires-2 : tie.Need-none-requires-2
-none-requires-2 c κs = search needs
-
 returns : tie.Need-returns
 unfolding first start
 returns c =
@@ -30,5 +18,4 @@ returns c =
     }
 
 pub start-spec : {M : Type 1} → statement M
-start-spec =
-    tie.close (tie.spec fresh-requires zero-requires none-requires none-requires-2 returns)
+start-spec = tie.close (tie.spec (λ c κs. search needs) (λ c κs. search needs) (λ c κs. search needs) (λ c κs. search needs) returns)

@@ -8,12 +8,6 @@ use borrow.Author.Needs.{needs}
 use Rattle.desk.proofs.held.line_in.Statement.{statement}
 use Rattle.desk.proofs.held.line_in.Tie as tie
 
-slice-aggregate-parse-line : tie.Need-slice-aggregate-parse-line
-slice-aggregate-parse-line c = search needs
-
-parse-line-requires : tie.Need-parse-line-requires
-parse-line-requires c κs = search needs
-
 returns : tie.Need-returns
 returns c = let s = c .before .before .before .before in let h = s .args .h in let long = held-long h (s .good .0) in c .parse-line .ensures ∙ ap (λ w. lineOf (split 9 w)) (sym (take-all (h .count) (h .bytes) (omega arith)))
 
@@ -23,20 +17,7 @@ array-share-prefix-bytes c = let s = c .before .before in let long = held-long (
 slice-aggregate-parse-line-2 : tie.Need-slice-aggregate-parse-line-2
 slice-aggregate-parse-line-2 c = let s = c .before .before .before in let long = held-long (s .args .h) (s .good .0) in sym (length-take-le (s .args .h .count) (s .args .h .bytes) (omega arith))
 
-parse-line-requires-2 : tie.Need-parse-line-requires-2
-parse-line-requires-2 c κs = search needs
-
-returns-2 : tie.Need-returns-2
-returns-2 c = search needs
-
 pub line-in-spec : {M : Type 1} → statement M
 line-in-spec =
-    tie.close
-    (tie.spec
-    slice-aggregate-parse-line
-    parse-line-requires
-    returns
-    array-share-prefix-bytes
-    slice-aggregate-parse-line-2
-    parse-line-requires-2
-    returns-2)
+    tie.close (tie.spec (λ c. search needs) (λ c κs. search needs) returns array-share-prefix-bytes slice-aggregate-parse-line-2
+    (λ c κs. search needs) (λ c. search needs))

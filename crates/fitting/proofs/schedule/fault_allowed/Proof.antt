@@ -5,12 +5,6 @@ use Rattle.fitting.specs.Allowed.{bit-positive, allowed-not, allowed-pla
 use Rattle.fitting.proofs.schedule.fault_allowed.Statement.{statement}
 use Rattle.fitting.proofs.schedule.fault_allowed.Tie as tie
 
-allowed-at-requires : tie.Need-allowed-at-requires
-allowed-at-requires c κs = search needs
-
-bit-of-requires : tie.Need-bit-of-requires
-bit-of-requires c κs = search needs
-
 div-if1 : tie.Need-div-if1
 div-if1 c = let b = bit-positive (c .before .before .args .letter) in let e = c .bit-of .ensures in omega arith
 
@@ -27,6 +21,4 @@ returns-4 : tie.Need-returns-4
 returns-4 c = allowed-counted _ _ _ _ _ (c .before .before .before .before .before .fits .letter .fits) (c .before .before .before .before .allowed-at .ensures) (c .before .before .before .bit-of .ensures) (c .before .before .if1 .left) (c .before .if2 .left) (c .if3 .left)
 
 pub fault-allowed-spec : {M : Type 1} → statement M
-fault-allowed-spec =
-    tie.close
-    (tie.spec allowed-at-requires bit-of-requires div-if1 returns returns-2 returns-3 returns-4)
+fault-allowed-spec = tie.close (tie.spec (λ c κs. search needs) (λ c κs. search needs) div-if1 returns returns-2 returns-3 returns-4)

@@ -24,23 +24,8 @@ loop-holds : tie.Need-loop-holds Inv-loop μ-loop
 unfolding firstLeft
 loop-holds c = search needs
 
-mul-f : tie.Need-mul-f Inv-loop μ-loop
-mul-f c = search needs
-
-array-copy-out-f : tie.Need-array-copy-out-f Inv-loop μ-loop
-array-copy-out-f c = search needs
-
-fault-allowed-requires : tie.Need-fault-allowed-requires Inv-loop μ-loop
-fault-allowed-requires c κs = search needs
-
 returns : tie.Need-returns Inv-loop μ-loop
 returns c = first-fail _ _ _ _ _ _ _ (c .before .before .before .before .loop .inv .1) (omega arith) (omega arith) (sym (c .before .fault-allowed .ensures) ∙ not-true _ (c .if1 .taken))
-
-add-i : tie.Need-add-i Inv-loop μ-loop
-add-i c = search needs
-
-loop-less : tie.Need-loop-less Inv-loop μ-loop
-loop-less c = search needs
 
 loop-again : tie.Need-loop-again Inv-loop μ-loop
 loop-again c = (omega arith, first-pass _ _ _ _ _ _ _ (c .before .before .before .before .loop .inv .1) (omega arith) (omega arith) (sym (c .before .fault-allowed .ensures) ∙ not-false _ (c .if1 .left)))
@@ -50,16 +35,5 @@ returns-2 c = first-none _ _ _ _ _ _ _ (c .before .loop .inv .1) (omega arith)
 
 pub faults-allowed-spec : {M : Type 1} → statement M
 faults-allowed-spec =
-    tie.close
-    (tie.spec
-    Inv-loop
-    μ-loop
-    loop-holds
-    mul-f
-    array-copy-out-f
-    fault-allowed-requires
-    returns
-    add-i
-    loop-less
-    loop-again
-    returns-2)
+    tie.close (tie.spec Inv-loop μ-loop loop-holds (λ c. search needs) (λ c. search needs) (λ c κs. search needs) returns (λ c. search needs)
+    (λ c. search needs) loop-again returns-2)

@@ -24,17 +24,8 @@ loop-holds : tie.Need-loop-holds Inv-loop μ-loop
 unfolding apartLeft
 loop-holds c = (omega arith, sym (steps-apart (take (c .args .n) (array faultLimit noFault (c .args .faults)))))
 
-steps-differ-requires : tie.Need-steps-differ-requires Inv-loop μ-loop
-steps-differ-requires c κs = search needs
-
 returns : tie.Need-returns Inv-loop μ-loop
 returns c = apart-fail _ _ _ _ _ _ _ (c .before .before .before .loop .inv .1) (omega arith) (omega arith) (sym (c .before .steps-differ .ensures) ∙ not-true _ (c .if1 .taken))
-
-add-i : tie.Need-add-i Inv-loop μ-loop
-add-i c = search needs
-
-loop-less : tie.Need-loop-less Inv-loop μ-loop
-loop-less c = search needs
 
 loop-again : tie.Need-loop-again Inv-loop μ-loop
 loop-again c = (omega arith, apart-pass _ _ _ _ _ _ _ (c .before .before .before .loop .inv .1) (omega arith) (omega arith) (sym (c .before .steps-differ .ensures) ∙ not-false _ (c .if1 .left)))
@@ -44,14 +35,4 @@ returns-2 c = apart-end _ _ _ _ _ _ _ (c .before .loop .inv .1) (omega arith)
 
 pub steps-apart-spec : {M : Type 1} → statement M
 steps-apart-spec =
-    tie.close
-    (tie.spec
-    Inv-loop
-    μ-loop
-    loop-holds
-    steps-differ-requires
-    returns
-    add-i
-    loop-less
-    loop-again
-    returns-2)
+    tie.close (tie.spec Inv-loop μ-loop loop-holds (λ c κs. search needs) returns (λ c. search needs) (λ c. search needs) loop-again returns-2)

@@ -7,9 +7,6 @@ use Rattle.fitting.proofs.Lengths.{sized-tx}
 use Rattle.fitting.proofs.tx.fit_of.Statement.{statement}
 use Rattle.fitting.proofs.tx.fit_of.Tie as tie
 
-counts-fit-requires : tie.Need-counts-fit-requires
-counts-fit-requires c κs = search needs
-
 returns : tie.Need-returns
 returns c = fit-fails _ _ _ _ (c .before .before .args .t5) (sized-tx (c .before .before .args .t5) (c .before .before .good .1 .1 .1 .1 .0)) 0 (sym (c .before .counts-fit .ensures) ∙ not-true _ (c .if1 .taken))
 
@@ -51,19 +48,5 @@ returns-8 c = fit-last _ _ _ _ (c .before .before .before .before .before .befor
 
 pub fit-of-spec : {M : Type 1} → statement M
 fit-of-spec =
-    tie.close
-    (tie.spec
-    counts-fit-requires
-    returns
-    reads-fit-requires
-    returns-2
-    writes-fit-requires
-    returns-3
-    writes-apart-requires
-    returns-4
-    stripes-apart-requires
-    returns-5
-    savepoints-fit-requires
-    returns-6
-    returns-7
-    returns-8)
+    tie.close (tie.spec (λ c κs. search needs) returns reads-fit-requires returns-2 writes-fit-requires returns-3 writes-apart-requires returns-4
+    stripes-apart-requires returns-5 savepoints-fit-requires returns-6 returns-7 returns-8)

@@ -23,29 +23,11 @@ loop-holds : tie.Need-loop-holds Inv-loop μ-loop
 unfolding allLeft
 loop-holds c = search needs
 
-mul-if1 : tie.Need-mul-if1 Inv-loop μ-loop
-mul-if1 c = search needs
-
-element-copy-out-if1 : tie.Need-element-copy-out-if1 Inv-loop μ-loop
-element-copy-out-if1 c = search needs
-
 returns : tie.Need-returns Inv-loop μ-loop
 returns c = all-fail _ _ _ _ _ _ (c .before .before .loop .inv) (omega arith) (stripe-set _ (c .if1 .taken))
 
-mul-if2 : tie.Need-mul-if2 Inv-loop μ-loop
-mul-if2 c = search needs
-
-element-copy-out-if2 : tie.Need-element-copy-out-if2 Inv-loop μ-loop
-element-copy-out-if2 c = search needs
-
 returns-2 : tie.Need-returns-2 Inv-loop μ-loop
 returns-2 c = all-fail _ _ _ _ _ _ (c .before .before .before .loop .inv) (omega arith) (stamp-set _ (c .if2 .taken))
-
-add-i : tie.Need-add-i Inv-loop μ-loop
-add-i c = search needs
-
-loop-less : tie.Need-loop-less Inv-loop μ-loop
-loop-less c = search needs
 
 loop-again : tie.Need-loop-again Inv-loop μ-loop
 loop-again c = all-pass _ _ _ _ _ _ (c .before .before .before .loop .inv) (omega arith) (index-read-unset _ (c .before .if1 .left) (c .if2 .left))
@@ -55,18 +37,5 @@ returns-3 c = all-end _ _ _ _ _ _ (c .before .loop .inv) (omega arith)
 
 pub no-index-read-from-spec : {M : Type 1} → statement M
 no-index-read-from-spec =
-    tie.close
-    (tie.spec
-    Inv-loop
-    μ-loop
-    loop-holds
-    mul-if1
-    element-copy-out-if1
-    returns
-    mul-if2
-    element-copy-out-if2
-    returns-2
-    add-i
-    loop-less
-    loop-again
-    returns-3)
+    tie.close (tie.spec Inv-loop μ-loop loop-holds (λ c. search needs) (λ c. search needs) returns (λ c. search needs) (λ c. search needs) returns-2
+    (λ c. search needs) (λ c. search needs) loop-again returns-3)

@@ -22,20 +22,8 @@ loop-holds : tie.Need-loop-holds Inv-loop μ-loop
 unfolding allLeft
 loop-holds c = search needs
 
-mul-if1 : tie.Need-mul-if1 Inv-loop μ-loop
-mul-if1 c = search needs
-
-element-copy-out-if1 : tie.Need-element-copy-out-if1 Inv-loop μ-loop
-element-copy-out-if1 c = search needs
-
 returns : tie.Need-returns Inv-loop μ-loop
 returns c = all-fail _ _ _ _ _ _ (c .before .before .before .loop .inv) (omega arith) (zero-no (c .if1 .taken))
-
-add-i : tie.Need-add-i Inv-loop μ-loop
-add-i c = search needs
-
-loop-less : tie.Need-loop-less Inv-loop μ-loop
-loop-less c = search needs
 
 loop-again : tie.Need-loop-again Inv-loop μ-loop
 loop-again c = all-pass _ _ _ _ _ _ (c .before .before .before .loop .inv) (omega arith) (zero-yes (c .if1 .left))
@@ -45,15 +33,5 @@ returns-2 c = all-end _ _ _ _ _ _ (c .before .loop .inv) (omega arith)
 
 pub no-savepoint-from-spec : {M : Type 1} → statement M
 no-savepoint-from-spec =
-    tie.close
-    (tie.spec
-    Inv-loop
-    μ-loop
-    loop-holds
-    mul-if1
-    element-copy-out-if1
-    returns
-    add-i
-    loop-less
-    loop-again
+    tie.close (tie.spec Inv-loop μ-loop loop-holds (λ c. search needs) (λ c. search needs) returns (λ c. search needs) (λ c. search needs) loop-again
     returns-2)

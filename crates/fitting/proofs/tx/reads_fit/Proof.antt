@@ -24,35 +24,14 @@ loop-holds : tie.Need-loop-holds Inv-loop μ-loop
 unfolding firstLeft
 loop-holds c = search needs
 
-mul-if1 : tie.Need-mul-if1 Inv-loop μ-loop
-mul-if1 c = search needs
-
-element-copy-out-if1 : tie.Need-element-copy-out-if1 Inv-loop μ-loop
-element-copy-out-if1 c = search needs
-
 returns : tie.Need-returns Inv-loop μ-loop
 returns c = first-fail _ _ _ _ _ _ _ (c .before .before .loop .inv .1) (omega arith) (omega arith) (read-row (getD (c .before .before .before .args .t1) (c .before .before .loop .i) noRead) (c .if1 .taken))
-
-mul-place : tie.Need-mul-place Inv-loop μ-loop
-mul-place c = search needs
-
-element-copy-out-place : tie.Need-element-copy-out-place Inv-loop μ-loop
-element-copy-out-place c = search needs
-
-place-requires : tie.Need-place-requires Inv-loop μ-loop
-place-requires c κs = search needs
 
 returns-2 : tie.Need-returns-2 Inv-loop μ-loop
 returns-2 c = first-fail _ _ _ _ _ _ _ (c .before .before .before .before .loop .inv .1) (omega arith) (omega arith) (read-low (getD (c .before .before .before .before .before .args .t1) (c .before .before .before .before .loop .i) noRead) _ (c .before .place .ensures) (c .if2 .taken))
 
 returns-3 : tie.Need-returns-3 Inv-loop μ-loop
 returns-3 c = first-fail _ _ _ _ _ _ _ (c .before .before .before .before .before .loop .inv .1) (omega arith) (omega arith) (read-high (getD (c .before .before .before .before .before .before .args .t1) (c .before .before .before .before .before .loop .i) noRead) _ (c .before .before .place .ensures) (c .if3 .taken))
-
-add-i : tie.Need-add-i Inv-loop μ-loop
-add-i c = search needs
-
-loop-less : tie.Need-loop-less Inv-loop μ-loop
-loop-less c = search needs
 
 loop-again : tie.Need-loop-again Inv-loop μ-loop
 loop-again c = (omega arith, first-pass _ _ _ _ _ _ _ (c .before .before .before .before .before .loop .inv .1) (omega arith) (omega arith) (read-fits (getD (c .before .before .before .before .before .before .args .t1) (c .before .before .before .before .before .loop .i) noRead) _ (c .before .before .place .ensures) (c .before .before .before .if1 .left) (c .before .if2 .left) (c .if3 .left)))
@@ -62,20 +41,5 @@ returns-4 c = first-none _ _ _ _ _ _ _ (c .before .loop .inv .1) (omega arith)
 
 pub reads-fit-spec : {M : Type 1} → statement M
 reads-fit-spec =
-    tie.close
-    (tie.spec
-    Inv-loop
-    μ-loop
-    loop-holds
-    mul-if1
-    element-copy-out-if1
-    returns
-    mul-place
-    element-copy-out-place
-    place-requires
-    returns-2
-    returns-3
-    add-i
-    loop-less
-    loop-again
-    returns-4)
+    tie.close (tie.spec Inv-loop μ-loop loop-holds (λ c. search needs) (λ c. search needs) returns (λ c. search needs) (λ c. search needs)
+    (λ c κs. search needs) returns-2 returns-3 (λ c. search needs) (λ c. search needs) loop-again returns-4)

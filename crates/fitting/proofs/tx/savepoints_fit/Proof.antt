@@ -22,23 +22,11 @@ loop-holds : tie.Need-loop-holds Inv-loop μ-loop
 unfolding climbLeft
 loop-holds c = search needs
 
-mul-p : tie.Need-mul-p Inv-loop μ-loop
-mul-p c = search needs
-
-element-copy-out-p : tie.Need-element-copy-out-p Inv-loop μ-loop
-element-copy-out-p c = search needs
-
-add-i : tie.Need-add-i Inv-loop μ-loop
-add-i c = search needs
-
 returns : tie.Need-returns Inv-loop μ-loop
 returns c = climb-low _ _ _ _ _ _ _ _ (c .before .before .before .loop .inv .1) (omega arith) (omega arith) (c .if1 .taken)
 
 returns-2 : tie.Need-returns-2 Inv-loop μ-loop
 returns-2 c = climb-fails _ _ _ _ _ _ _ _ (c .before .before .before .before .loop .inv .1) (omega arith) (omega arith) (c .before .if1 .left) (lt-leb _ _ (c .if2 .taken))
-
-loop-less : tie.Need-loop-less Inv-loop μ-loop
-loop-less c = search needs
 
 loop-again : tie.Need-loop-again Inv-loop μ-loop
 loop-again c = (omega arith, climb-pass _ _ _ _ _ _ _ _ (c .before .before .before .before .loop .inv .1) (omega arith) (omega arith) _ refl (c .before .if1 .left) (le-leb _ _ (c .if2 .left)))
@@ -48,16 +36,5 @@ returns-3 c = climb-end _ _ _ _ _ _ _ _ (c .before .loop .inv .1) (omega arith)
 
 pub savepoints-fit-spec : {M : Type 1} → statement M
 savepoints-fit-spec =
-    tie.close
-    (tie.spec
-    Inv-loop
-    μ-loop
-    loop-holds
-    mul-p
-    element-copy-out-p
-    add-i
-    returns
-    returns-2
-    loop-less
-    loop-again
-    returns-3)
+    tie.close (tie.spec Inv-loop μ-loop loop-holds (λ c. search needs) (λ c. search needs) (λ c. search needs) returns returns-2 (λ c. search needs)
+    loop-again returns-3)

@@ -23,29 +23,11 @@ loop-holds : tie.Need-loop-holds Inv-loop μ-loop
 unfolding stripesLeft
 loop-holds c = search needs
 
-mul-place : tie.Need-mul-place Inv-loop μ-loop
-mul-place c = search needs
-
-element-copy-out-place : tie.Need-element-copy-out-place Inv-loop μ-loop
-element-copy-out-place c = search needs
-
-place-requires : tie.Need-place-requires Inv-loop μ-loop
-place-requires c κs = search needs
-
 returns : tie.Need-returns Inv-loop μ-loop
 returns c = stripes-high _ _ _ _ (c .before .before .before .loop .inv .1) (omega arith) (omega arith) _ (c .before .place .ensures) (c .if1 .taken)
 
-stripes-differ-requires : tie.Need-stripes-differ-requires Inv-loop μ-loop
-stripes-differ-requires c κs = search needs
-
 returns-2 : tie.Need-returns-2 Inv-loop μ-loop
 returns-2 c = stripes-twice _ _ _ _ (c .before .before .before .before .before .loop .inv .1) (omega arith) (omega arith) _ (c .before .before .before .place .ensures) (c .before .before .if1 .left) (sym (c .before .stripes-differ .ensures) ∙ not-true _ (c .if2 .taken))
-
-add-i : tie.Need-add-i Inv-loop μ-loop
-add-i c = search needs
-
-loop-less : tie.Need-loop-less Inv-loop μ-loop
-loop-less c = search needs
 
 loop-again : tie.Need-loop-again Inv-loop μ-loop
 loop-again c = (omega arith, stripes-pass _ _ _ _ (c .before .before .before .before .before .loop .inv .1) (omega arith) (omega arith) _ (c .before .before .before .place .ensures) (c .before .before .if1 .left) (sym (c .before .stripes-differ .ensures) ∙ not-false _ (c .if2 .left)))
@@ -55,18 +37,5 @@ returns-3 c = stripes-end _ _ _ _ (c .before .loop .inv .1) (omega arith)
 
 pub stripes-apart-spec : {M : Type 1} → statement M
 stripes-apart-spec =
-    tie.close
-    (tie.spec
-    Inv-loop
-    μ-loop
-    loop-holds
-    mul-place
-    element-copy-out-place
-    place-requires
-    returns
-    stripes-differ-requires
-    returns-2
-    add-i
-    loop-less
-    loop-again
-    returns-3)
+    tie.close (tie.spec Inv-loop μ-loop loop-holds (λ c. search needs) (λ c. search needs) (λ c κs. search needs) returns (λ c κs. search needs)
+    returns-2 (λ c. search needs) (λ c. search needs) loop-again returns-3)

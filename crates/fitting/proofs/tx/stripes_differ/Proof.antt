@@ -20,33 +20,12 @@ Inv-loop n i reads stripe j₀ j = (j ≤ n) × (firstLeft (stripesDiffer (getD 
 abbrev μ-loop : tie.MeasureT-loop
 μ-loop n i reads stripe j₀ j = n - j
 
-mul-stripe : tie.Need-mul-stripe Inv-loop μ-loop
-mul-stripe c = search needs
-
-element-copy-out-stripe : tie.Need-element-copy-out-stripe Inv-loop μ-loop
-element-copy-out-stripe c = search needs
-
-add-j : tie.Need-add-j Inv-loop μ-loop
-add-j c = search needs
-
 loop-holds : tie.Need-loop-holds Inv-loop μ-loop
 unfolding firstLeft
 loop-holds c = search needs
 
-mul-if1 : tie.Need-mul-if1 Inv-loop μ-loop
-mul-if1 c = search needs
-
-element-copy-out-if1 : tie.Need-element-copy-out-if1 Inv-loop μ-loop
-element-copy-out-if1 c = search needs
-
 returns : tie.Need-returns Inv-loop μ-loop
 returns c = first-fail _ _ _ _ _ _ _ (c .before .before .loop .inv .1) (omega arith) (omega arith) (differ-no (c .if1 .taken))
-
-add-j-2 : tie.Need-add-j-2 Inv-loop μ-loop
-add-j-2 c = search needs
-
-loop-less : tie.Need-loop-less Inv-loop μ-loop
-loop-less c = search needs
 
 loop-again : tie.Need-loop-again Inv-loop μ-loop
 loop-again c = (omega arith, first-pass _ _ _ _ _ _ _ (c .before .before .loop .inv .1) (omega arith) (omega arith) (differ-yes (c .if1 .left)))
@@ -56,18 +35,5 @@ returns-2 c = first-none _ _ _ _ _ _ _ (c .before .loop .inv .1) (omega arith)
 
 pub stripes-differ-spec : {M : Type 1} → statement M
 stripes-differ-spec =
-    tie.close
-    (tie.spec
-    Inv-loop
-    μ-loop
-    mul-stripe
-    element-copy-out-stripe
-    add-j
-    loop-holds
-    mul-if1
-    element-copy-out-if1
-    returns
-    add-j-2
-    loop-less
-    loop-again
-    returns-2)
+    tie.close (tie.spec Inv-loop μ-loop (λ c. search needs) (λ c. search needs) (λ c. search needs) loop-holds (λ c. search needs) (λ c. search needs)
+    returns (λ c. search needs) (λ c. search needs) loop-again returns-2)

@@ -7,29 +7,14 @@ use Rattle.fitting.proofs.tx.write_fit.Tie as tie
 returns : tie.Need-returns
 returns c = write-row _ _ _ _ _ (c .if1 .taken)
 
-place-requires : tie.Need-place-requires
-place-requires c κs = search needs
-
 returns-2 : tie.Need-returns-2
 returns-2 c = write-base _ _ _ _ _ _ (c .before .place .ensures) (c .if2 .taken)
-
-place-requires-2 : tie.Need-place-requires-2
-place-requires-2 c κs = search needs
 
 returns-3 : tie.Need-returns-3
 returns-3 c = write-high _ _ _ _ _ _ (c .before .place2 .ensures) (c .if3 .taken)
 
-mul-x : tie.Need-mul-x
-mul-x c = search needs
-
-element-copy-out-x : tie.Need-element-copy-out-x
-element-copy-out-x c = search needs
-
 returns-4 : tie.Need-returns-4
 returns-4 c = write-free _ _ _ _ _ _ (c .before .before .before .place2 .ensures) (c .before .before .if3 .left) (c .if4 .taken)
-
-element-copy-out-if5 : tie.Need-element-copy-out-if5
-element-copy-out-if5 c = search needs
 
 returns-5 : tie.Need-returns-5
 returns-5 c = write-seen _ _ _ _ _ _ (c .before .before .before .before .before .place2 .ensures) (c .before .before .before .before .if3 .left) (c .if5 .taken)
@@ -37,30 +22,10 @@ returns-5 c = write-seen _ _ _ _ _ _ (c .before .before .before .before .before 
 returns-6 : tie.Need-returns-6
 returns-6 c = write-other _ _ _ _ _ _ (c .before .before .before .before .before .before .place2 .ensures) (c .before .before .before .before .before .if3 .left) (c .if6 .taken)
 
-mul-result : tie.Need-mul-result
-mul-result c = search needs
-
-element-copy-out-result : tie.Need-element-copy-out-result
-element-copy-out-result c = search needs
-
 returns-7 : tie.Need-returns-7
 returns-7 c = write-last _ _ _ _ _ _ (c .before .before .before .before .before .before .before .before .place2 .ensures) (c .before .before .before .before .before .before .before .if3 .left) _ (c .before .before .before .before .before .before .before .before .before .before .place .ensures) (c .before .before .before .before .before .before .before .before .before .before .before .if1 .left) (c .before .before .before .before .before .before .before .before .before .if2 .left) (c .before .before .before .before .before .if4 .left) (c .before .before .before .if5 .left) (c .before .before .if6 .left)
 
 pub write-fit-spec : {M : Type 1} → statement M
 write-fit-spec =
-    tie.close
-    (tie.spec
-    returns
-    place-requires
-    returns-2
-    place-requires-2
-    returns-3
-    mul-x
-    element-copy-out-x
-    returns-4
-    element-copy-out-if5
-    returns-5
-    returns-6
-    mul-result
-    element-copy-out-result
-    returns-7)
+    tie.close (tie.spec returns (λ c κs. search needs) returns-2 (λ c κs. search needs) returns-3 (λ c. search needs) (λ c. search needs) returns-4
+    (λ c. search needs) returns-5 returns-6 (λ c. search needs) (λ c. search needs) returns-7)

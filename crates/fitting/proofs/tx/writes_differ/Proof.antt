@@ -20,36 +20,15 @@ Inv-loop n i writes w j₀ j = (j ≤ n) × (firstLeft (writesDiffer (getD write
 abbrev μ-loop : tie.MeasureT-loop
 μ-loop n i writes w j₀ j = n - j
 
-mul-w : tie.Need-mul-w Inv-loop μ-loop
-mul-w c = search needs
-
-array-copy-out-w : tie.Need-array-copy-out-w Inv-loop μ-loop
-array-copy-out-w c = search needs
-
-add-j : tie.Need-add-j Inv-loop μ-loop
-add-j c = search needs
-
 loop-holds : tie.Need-loop-holds Inv-loop μ-loop
 unfolding firstLeft
 loop-holds c = search needs
-
-mul-v : tie.Need-mul-v Inv-loop μ-loop
-mul-v c = search needs
-
-array-copy-out-v : tie.Need-array-copy-out-v Inv-loop μ-loop
-array-copy-out-v c = search needs
 
 returns : tie.Need-returns Inv-loop μ-loop
 returns c = first-fail _ _ _ _ _ _ _ (c .before .before .before .before .before .loop .inv .1) (omega arith) (omega arith) (same-new _ _ (c .if1 .taken))
 
 returns-2 : tie.Need-returns-2 Inv-loop μ-loop
 returns-2 c = first-fail _ _ _ _ _ _ _ (c .before .before .before .before .before .before .before .before .before .before .before .loop .inv .1) (omega arith) (omega arith) (other-base _ _ (c .before .before .before .if2 .taken) (c .if3 .taken))
-
-add-j-2 : tie.Need-add-j-2 Inv-loop μ-loop
-add-j-2 c = search needs
-
-loop-less : tie.Need-loop-less Inv-loop μ-loop
-loop-less c = search needs
 
 loop-again : tie.Need-loop-again Inv-loop μ-loop
 loop-again c = (
@@ -65,19 +44,5 @@ returns-3 c = first-none _ _ _ _ _ _ _ (c .before .loop .inv .1) (omega arith)
 
 pub writes-differ-spec : {M : Type 1} → statement M
 writes-differ-spec =
-    tie.close
-    (tie.spec
-    Inv-loop
-    μ-loop
-    mul-w
-    array-copy-out-w
-    add-j
-    loop-holds
-    mul-v
-    array-copy-out-v
-    returns
-    returns-2
-    add-j-2
-    loop-less
-    loop-again
-    returns-3)
+    tie.close (tie.spec Inv-loop μ-loop (λ c. search needs) (λ c. search needs) (λ c. search needs) loop-holds (λ c. search needs) (λ c. search needs)
+    returns returns-2 (λ c. search needs) (λ c. search needs) loop-again returns-3)

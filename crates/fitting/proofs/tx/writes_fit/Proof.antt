@@ -24,23 +24,8 @@ loop-holds : tie.Need-loop-holds Inv-loop μ-loop
 unfolding firstLeft
 loop-holds c = search needs
 
-mul-w : tie.Need-mul-w Inv-loop μ-loop
-mul-w c = search needs
-
-array-copy-out-w : tie.Need-array-copy-out-w Inv-loop μ-loop
-array-copy-out-w c = search needs
-
-write-fit-requires : tie.Need-write-fit-requires Inv-loop μ-loop
-write-fit-requires c κs = search needs
-
 returns : tie.Need-returns Inv-loop μ-loop
 returns c = first-fail _ _ _ _ _ _ _ (c .before .before .before .before .loop .inv .1) (omega arith) (omega arith) (sym (c .before .write-fit .ensures) ∙ not-true _ (c .if1 .taken))
-
-add-i : tie.Need-add-i Inv-loop μ-loop
-add-i c = search needs
-
-loop-less : tie.Need-loop-less Inv-loop μ-loop
-loop-less c = search needs
 
 loop-again : tie.Need-loop-again Inv-loop μ-loop
 loop-again c = (omega arith, first-pass _ _ _ _ _ _ _ (c .before .before .before .before .loop .inv .1) (omega arith) (omega arith) (sym (c .before .write-fit .ensures) ∙ not-false _ (c .if1 .left)))
@@ -50,16 +35,5 @@ returns-2 c = first-none _ _ _ _ _ _ _ (c .before .loop .inv .1) (omega arith)
 
 pub writes-fit-spec : {M : Type 1} → statement M
 writes-fit-spec =
-    tie.close
-    (tie.spec
-    Inv-loop
-    μ-loop
-    loop-holds
-    mul-w
-    array-copy-out-w
-    write-fit-requires
-    returns
-    add-i
-    loop-less
-    loop-again
-    returns-2)
+    tie.close (tie.spec Inv-loop μ-loop loop-holds (λ c. search needs) (λ c. search needs) (λ c κs. search needs) returns (λ c. search needs)
+    (λ c. search needs) loop-again returns-2)

@@ -3,11 +3,8 @@ use borrow.Author.Needs.{needs}
 use Rattle.journal.proofs.fields.enter_active.Statement.{statement}
 use Rattle.journal.proofs.fields.enter_active.Tie as tie
 
-enter-requires : tie.Need-enter-requires
-enter-requires c κs = search needs
-
 returns : tie.Need-returns
 returns c = rw (c .before .enter-arg .given .0 .1) at (c .enter .ensures)
 
 pub enter-active-spec : {M : Type 1} → statement M
-enter-active-spec = tie.close (tie.spec enter-requires returns)
+enter-active-spec = tie.close (tie.spec (λ c κs. search needs) returns)

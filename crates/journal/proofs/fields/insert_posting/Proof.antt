@@ -3,11 +3,8 @@ use borrow.Author.Needs.{needs}
 use Rattle.journal.proofs.fields.insert_posting.Statement.{statement}
 use Rattle.journal.proofs.fields.insert_posting.Tie as tie
 
-insert-requires : tie.Need-insert-requires
-insert-requires c κs = search needs
-
 returns : tie.Need-returns
 returns c = rw (← (c .before .insert-arg .given .0 .1)) (c .insert .ensures)
 
 pub insert-posting-spec : {M : Type 1} → statement M
-insert-posting-spec = tie.close (tie.spec insert-requires returns)
+insert-posting-spec = tie.close (tie.spec (λ c κs. search needs) returns)

@@ -3,11 +3,8 @@ use borrow.Author.Needs.{needs}
 use Rattle.journal.proofs.fields.leave_active.Statement.{statement}
 use Rattle.journal.proofs.fields.leave_active.Tie as tie
 
-leave-requires : tie.Need-leave-requires
-leave-requires c κs = search needs
-
 returns : tie.Need-returns
 returns c = rw (c .before .leave-arg .given .0 .1) at (c .leave .ensures)
 
 pub leave-active-spec : {M : Type 1} → statement M
-leave-active-spec = tie.close (tie.spec leave-requires returns)
+leave-active-spec = tie.close (tie.spec (λ c κs. search needs) returns)

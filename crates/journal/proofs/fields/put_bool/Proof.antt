@@ -5,17 +5,8 @@ use borrow.Author.Needs.{needs}
 use Rattle.journal.proofs.fields.put_bool.Statement.{statement}
 use Rattle.journal.proofs.fields.put_bool.Tie as tie
 
-slice-write-x : tie.Need-slice-write-x
-slice-write-x c = search needs
-
-same-length : tie.Need-same-length
-same-length c = search needs
-
-returns : tie.Need-returns
-returns c = search needs
-
 returns-2 : tie.Need-returns-2
 returns-2 c = sym (set-out _ _ _ (c .if1 .left))
 
 pub put-bool-spec : {M : Type 1} → statement M
-put-bool-spec = tie.close (tie.spec slice-write-x same-length returns returns-2)
+put-bool-spec = tie.close (tie.spec (λ c. search needs) (λ c. search needs) (λ c. search needs) returns-2)

@@ -3,11 +3,8 @@ use borrow.Author.Needs.{needs}
 use Rattle.journal.proofs.fields.remove_posting.Statement.{statement}
 use Rattle.journal.proofs.fields.remove_posting.Tie as tie
 
-remove-requires : tie.Need-remove-requires
-remove-requires c κs = search needs
-
 returns : tie.Need-returns
 returns c = rw (← (c .before .remove-arg .given .0 .1)) (c .remove .ensures)
 
 pub remove-posting-spec : {M : Type 1} → statement M
-remove-posting-spec = tie.close (tie.spec remove-requires returns)
+remove-posting-spec = tie.close (tie.spec (λ c κs. search needs) returns)

@@ -5,16 +5,10 @@ use Rattle.look.specs.Candidates.{candidate-marks}
 use Rattle.look.proofs.candidates.candidates.Statement.{statement}
 use Rattle.look.proofs.candidates.candidates.Tie as tie
 
-posted-rows-requires : tie.Need-posted-rows-requires
-posted-rows-requires c κs = search needs
-
-own-rows-requires : tie.Need-own-rows-requires
-own-rows-requires c κs = search needs
-
 returns : tie.Need-returns
 returns c =
     let a = c .before .before .args in
     candidate-marks (atPostings (a .postings .now)) (a .count) (a .x) (a .k) _ _ (c .before .posted-rows .ensures) (c .own-rows .ensures)
 
 pub candidates-spec : {M : Type 1} → statement M
-candidates-spec = tie.close (tie.spec posted-rows-requires own-rows-requires returns)
+candidates-spec = tie.close (tie.spec (λ c κs. search needs) (λ c κs. search needs) returns)

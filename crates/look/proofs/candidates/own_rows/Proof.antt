@@ -20,35 +20,14 @@ Inv-loop x q₀ n i₀ q i = (i ≤ n) × (n ≡ min (x .«write_count») writeL
 abbrev μ-loop : tie.MeasureT-loop
 μ-loop x q₀ n i₀ q i = n - i
 
-clipped-requires : tie.Need-clipped-requires Inv-loop μ-loop
-clipped-requires c κs = search needs
-
 loop-holds : tie.Need-loop-holds Inv-loop μ-loop
 unfolding firstFrom
 loop-holds c = (omega arith, c .clipped .ensures, search needs, refl)
-
-mul-w : tie.Need-mul-w Inv-loop μ-loop
-mul-w c = search needs
-
-element-copy-out-w : tie.Need-element-copy-out-w Inv-loop μ-loop
-element-copy-out-w c = search needs
-
-add-i : tie.Need-add-i Inv-loop μ-loop
-add-i c = search needs
-
-array-write-q : tie.Need-array-write-q Inv-loop μ-loop
-array-write-q c = search needs
-
-loop-less : tie.Need-loop-less Inv-loop μ-loop
-loop-less c = search needs
 
 loop-again : tie.Need-loop-again Inv-loop μ-loop
 loop-again c =
     let long = writes-long (c .before .before .before .before .before .args .t1) (c .before .before .before .before .before .good .0) in
     (omega arith, omega arith, search needs, sym (own-row _ _ _ _ (first-next _ _ _ noWrite (omega arith))) ∙ c .before .before .before .loop .inv .3)
-
-loop-less-2 : tie.Need-loop-less-2 Inv-loop μ-loop
-loop-less-2 c = search needs
 
 loop-again-2 : tie.Need-loop-again-2 Inv-loop μ-loop
 loop-again-2 c =
@@ -64,18 +43,5 @@ returns c =
 
 pub own-rows-spec : {M : Type 1} → statement M
 own-rows-spec =
-    tie.close
-    (tie.spec
-    Inv-loop
-    μ-loop
-    clipped-requires
-    loop-holds
-    mul-w
-    element-copy-out-w
-    add-i
-    array-write-q
-    loop-less
-    loop-again
-    loop-less-2
-    loop-again-2
-    returns)
+    tie.close (tie.spec Inv-loop μ-loop (λ c κs. search needs) loop-holds (λ c. search needs) (λ c. search needs) (λ c. search needs)
+    (λ c. search needs) (λ c. search needs) loop-again (λ c. search needs) loop-again-2 returns)

@@ -4,12 +4,9 @@ use Rattle.types.specs.Zero.{zeroTx, onlyTxid}
 use Rattle.look.proofs.changed.only_txid.Statement.{statement}
 use Rattle.look.proofs.changed.only_txid.Tie as tie
 
-zero-requires : tie.Need-zero-requires
-zero-requires c κs = search needs
-
 returns : tie.Need-returns
 unfolding zeroTx onlyTxid
 returns c = rw (c .before .zero .ensures)
 
 pub only-txid-spec : {M : Type 1} → statement M
-only-txid-spec = tie.close (tie.spec zero-requires returns)
+only-txid-spec = tie.close (tie.spec (λ c κs. search needs) returns)

@@ -5,12 +5,6 @@ use Rattle.look.specs.Lookup.{key-there, key-absent}
 use Rattle.look.proofs.lookup.has_key.Statement.{statement}
 use Rattle.look.proofs.lookup.has_key.Tie as tie
 
-flag-at-requires : tie.Need-flag-at-requires
-flag-at-requires c κs = search needs
-
-key-at-requires : tie.Need-key-at-requires
-key-at-requires c κs = search needs
-
 returns : tie.Need-returns
 returns c = key-there _ _ _ _ _ (sym (c .before .before .flag-at .ensures) ∙ c .before .if1 .taken) (c .key-at .ensures)
 
@@ -18,4 +12,4 @@ returns-2 : tie.Need-returns-2
 returns-2 c = key-absent _ _ _ _ (sym (c .before .flag-at .ensures) ∙ c .if1 .left)
 
 pub has-key-spec : {M : Type 1} → statement M
-has-key-spec = tie.close (tie.spec flag-at-requires key-at-requires returns returns-2)
+has-key-spec = tie.close (tie.spec (λ c κs. search needs) (λ c κs. search needs) returns returns-2)

@@ -22,30 +22,6 @@ abbrev μ-loop : tie.MeasureT-loop
 loop-holds : tie.Need-loop-holds Inv-loop μ-loop
 loop-holds c = (omega arith, none-found _ _ (rw (marked-whole (c .args .marks .now))))
 
-element-copy-out-marked : tie.Need-element-copy-out-marked Inv-loop μ-loop
-element-copy-out-marked c = search needs
-
-add-r : tie.Need-add-r Inv-loop μ-loop
-add-r c = search needs
-
-read-ptr-requires : tie.Need-read-ptr-requires Inv-loop μ-loop
-read-ptr-requires c κs = search needs
-
-has-key-requires : tie.Need-has-key-requires Inv-loop μ-loop
-has-key-requires c κs = search needs
-
-mul-at : tie.Need-mul-at Inv-loop μ-loop
-mul-at c = search needs
-
-array-set-from-at : tie.Need-array-set-from-at Inv-loop μ-loop
-array-set-from-at c = search needs
-
-add-count : tie.Need-add-count Inv-loop μ-loop
-add-count c = search needs
-
-loop-less : tie.Need-loop-less Inv-loop μ-loop
-loop-less c = search needs
-
 loop-again : tie.Need-loop-again Inv-loop μ-loop
 loop-again c =
     let turn = c .before .before .before .before .before in
@@ -53,18 +29,12 @@ loop-again c =
     let there = matches-yes _ _ _ _ _ _ _ _ _ _ _ yes (c .before .before .read-ptr .ensures) _ (c .before .has-key .ensures) (c .if2 .taken) in
     (omega arith, found-one _ _ _ _ _ (turn .before .loop .inv .1) _ (turn .loop-test .taken) there)
 
-loop-less-2 : tie.Need-loop-less-2 Inv-loop μ-loop
-loop-less-2 c = search needs
-
 loop-again-2 : tie.Need-loop-again-2 Inv-loop μ-loop
 loop-again-2 c =
     let turn = c .before .before .before .before .before in
     let yes = marked-yes (turn .before .before .args .marks .now) (turn .before .loop .r) (turn .loop-test .taken) (c .before .before .before .if1 .taken) in
     let other = matches-not _ _ _ _ _ _ _ _ _ _ _ yes (c .before .before .read-ptr .ensures) _ (c .before .has-key .ensures) (c .if2 .left) in
     (omega arith, not-found _ _ _ _ _ (turn .before .loop .inv .1) _ other)
-
-loop-less-3 : tie.Need-loop-less-3 Inv-loop μ-loop
-loop-less-3 c = search needs
 
 loop-again-3 : tie.Need-loop-again-3 Inv-loop μ-loop
 loop-again-3 c =
@@ -76,22 +46,6 @@ returns c = all-found _ _ _ _ _ (c .before .loop .inv .1) (matches-none _ _ _ _ 
 
 pub matching-spec : {M : Type 1} → statement M
 matching-spec =
-    tie.close
-    (tie.spec
-    Inv-loop
-    μ-loop
-    loop-holds
-    element-copy-out-marked
-    add-r
-    read-ptr-requires
-    has-key-requires
-    mul-at
-    array-set-from-at
-    add-count
-    loop-less
-    loop-again
-    loop-less-2
-    loop-again-2
-    loop-less-3
-    loop-again-3
-    returns)
+    tie.close (tie.spec Inv-loop μ-loop loop-holds (λ c. search needs) (λ c. search needs) (λ c κs. search needs) (λ c κs. search needs)
+    (λ c. search needs) (λ c. search needs) (λ c. search needs) (λ c. search needs) loop-again (λ c. search needs) loop-again-2 (λ c. search needs)
+    loop-again-3 returns)

@@ -24,23 +24,8 @@ Inv-loop heads next xmin marks x l₀ i₀ l i = (i ≤ rows)
 abbrev μ-loop : tie.MeasureT-loop
 μ-loop heads next xmin marks x l₀ i₀ l i = rows - i
 
-reads-of-requires : tie.Need-reads-of-requires Inv-loop μ-loop
-reads-of-requires c κs = search needs
-
 loop-holds : tie.Need-loop-holds Inv-loop μ-loop
 loop-holds c = (omega arith, readsOf (c .before .args .x), c .reads-of .ensures, rw (marked-whole (c .before .args .marks .now)))
-
-element-copy-out-marked : tie.Need-element-copy-out-marked Inv-loop μ-loop
-element-copy-out-marked c = search needs
-
-add-i : tie.Need-add-i Inv-loop μ-loop
-add-i c = search needs
-
-record-read-requires : tie.Need-record-read-requires Inv-loop μ-loop
-record-read-requires c κs = search needs
-
-loop-less : tie.Need-loop-less Inv-loop μ-loop
-loop-less c = search needs
 
 loop-again : tie.Need-loop-again Inv-loop μ-loop
 loop-again c =
@@ -50,9 +35,6 @@ loop-again c =
     let a = turn .before .before .before .args in
     let m = recordReadOf (atRows (a .heads .now)) (atPlaces (a .next .now)) (atPlaces (a .xmin .now)) (a .x) (turn .before .loop .i) (inv .1) in
     (omega arith, m, c .record-read .ensures (inv .1) (inv .2), sym (records-next _ _ _ _ _ _ _ _ yes) ∙ inv .3)
-
-loop-less-2 : tie.Need-loop-less-2 Inv-loop μ-loop
-loop-less-2 c = search needs
 
 loop-again-2 : tie.Need-loop-again-2 Inv-loop μ-loop
 loop-again-2 c =
@@ -68,17 +50,5 @@ returns c =
 
 pub record-marked-spec : {M : Type 1} → statement M
 record-marked-spec =
-    tie.close
-    (tie.spec
-    Inv-loop
-    μ-loop
-    reads-of-requires
-    loop-holds
-    element-copy-out-marked
-    add-i
-    record-read-requires
-    loop-less
-    loop-again
-    loop-less-2
-    loop-again-2
-    returns)
+    tie.close (tie.spec Inv-loop μ-loop (λ c κs. search needs) loop-holds (λ c. search needs) (λ c. search needs) (λ c κs. search needs)
+    (λ c. search needs) loop-again (λ c. search needs) loop-again-2 returns)

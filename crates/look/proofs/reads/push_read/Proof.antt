@@ -4,15 +4,6 @@ use Rattle.look.specs.Reads.{push-room, push-over}
 use Rattle.look.proofs.reads.push_read.Statement.{statement}
 use Rattle.look.proofs.reads.push_read.Tie as tie
 
-mul-e : tie.Need-mul-e
-mul-e c = search needs
-
-element-set-from-e : tie.Need-element-set-from-e
-element-set-from-e c = search needs
-
-add-q : tie.Need-add-q
-add-q c = search needs
-
 returns : tie.Need-returns
 returns c = λ m holds. push-room _ m _ holds (c .if1 .taken)
 
@@ -20,4 +11,4 @@ returns-2 : tie.Need-returns-2
 returns-2 c = λ m holds. push-over _ m _ holds (c .if1 .left)
 
 pub push-read-spec : {M : Type 1} → statement M
-push-read-spec = tie.close (tie.spec mul-e element-set-from-e add-q returns returns-2)
+push-read-spec = tie.close (tie.spec (λ c. search needs) (λ c. search needs) (λ c. search needs) returns returns-2)

@@ -6,14 +6,8 @@ use Rattle.look.specs.Record.{record-none, record-once, read-before, rea
 use Rattle.look.proofs.reads.record_read.Statement.{statement}
 use Rattle.look.proofs.reads.record_read.Tie as tie
 
-recorded-requires : tie.Need-recorded-requires
-recorded-requires c κs = search needs
-
 returns : tie.Need-returns
 returns c = λ m holds. holds ∙ ap laid (sym (record-none _ _ _ _ _ m (sym (c .if1 .taken) ∙ c .before .before .recorded .ensures)))
-
-has-read-requires : tie.Need-has-read-requires
-has-read-requires c κs = search needs
 
 returns-2 : tie.Need-returns-2
 returns-2 c =
@@ -21,12 +15,6 @@ returns-2 c =
     let v = c .before .before .before .before in
     let once = record-once _ _ _ _ _ m _ _ (v .recorded .ensures) (c .before .before .if1 .left) refl in
     holds ∙ (read-before _ m _ _ _ holds (c .before .has-read .ensures) (c .if2 .taken) ∙ ap laid (sym once))
-
-txid-at-requires : tie.Need-txid-at-requires
-txid-at-requires c κs = search needs
-
-push-read-requires : tie.Need-push-read-requires
-push-read-requires c κs = search needs
 
 returns-3 : tie.Need-returns-3
 returns-3 c =
@@ -36,4 +24,5 @@ returns-3 c =
     c .push-read .ensures m holds ∙ (read-new _ m _ _ _ holds (c .before .before .before .has-read .ensures) (c .before .before .if2 .left) _ refl ∙ ap laid (sym once))
 
 pub record-read-spec : {M : Type 1} → statement M
-record-read-spec = tie.close (tie.spec recorded-requires returns has-read-requires returns-2 txid-at-requires push-read-requires returns-3)
+record-read-spec =
+    tie.close (tie.spec (λ c κs. search needs) returns (λ c κs. search needs) returns-2 (λ c κs. search needs) (λ c κs. search needs) returns-3)

@@ -20,30 +20,15 @@ Inv-loop stripe x n i₀ i = (i ≤ n) × (n ≡ min (x .«index_read_count») i
 abbrev μ-loop : tie.MeasureT-loop
 μ-loop stripe x n i₀ i = n - i
 
-clipped-requires : tie.Need-clipped-requires Inv-loop μ-loop
-clipped-requires c κs = search needs
-
 loop-holds : tie.Need-loop-holds Inv-loop μ-loop
 unfolding firstFrom
 loop-holds c = (omega arith, c .clipped .ensures, refl)
-
-mul-e : tie.Need-mul-e Inv-loop μ-loop
-mul-e c = search needs
-
-element-copy-out-e : tie.Need-element-copy-out-e Inv-loop μ-loop
-element-copy-out-e c = search needs
 
 returns : tie.Need-returns Inv-loop μ-loop
 returns c =
     let turn = c .before .before .before in
     let long = index-reads-long (turn .before .before .before .args .t1) (turn .before .before .before .good .0) in
     sym (any-first (ofStripe (turn .before .before .before .args .stripe)) _ _ _ (first-next _ _ _ noIndexRead (omega arith)) (eq-eqb _ _ (c .if1 .taken))) ∙ turn .before .loop .inv .2
-
-add-i : tie.Need-add-i Inv-loop μ-loop
-add-i c = search needs
-
-loop-less : tie.Need-loop-less Inv-loop μ-loop
-loop-less c = search needs
 
 loop-again : tie.Need-loop-again Inv-loop μ-loop
 loop-again c =
@@ -58,16 +43,5 @@ returns-2 c =
 
 pub has-stripe-spec : {M : Type 1} → statement M
 has-stripe-spec =
-    tie.close
-    (tie.spec
-    Inv-loop
-    μ-loop
-    clipped-requires
-    loop-holds
-    mul-e
-    element-copy-out-e
-    returns
-    add-i
-    loop-less
-    loop-again
-    returns-2)
+    tie.close (tie.spec Inv-loop μ-loop (λ c κs. search needs) loop-holds (λ c. search needs) (λ c. search needs) returns (λ c. search needs)
+    (λ c. search needs) loop-again returns-2)

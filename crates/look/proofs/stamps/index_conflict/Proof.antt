@@ -15,12 +15,9 @@ returns-2 : tie.Need-returns-2
 unfolding indexConflict
 returns-2 c = simp (c .before .before .if1 .left, eq-eqb _ _ (c .if2 .taken))
 
-sees-requires : tie.Need-sees-requires
-sees-requires c κs = search needs
-
 returns-3 : tie.Need-returns-3
 unfolding indexConflict
 returns-3 c = simp (c .before .before .before .if1 .left, ne-eqb _ _ (c .before .if2 .left)) (ap not (c .sees .ensures))
 
 pub index-conflict-spec : {M : Type 1} → statement M
-index-conflict-spec = tie.close (tie.spec returns returns-2 sees-requires returns-3)
+index-conflict-spec = tie.close (tie.spec returns returns-2 (λ c κs. search needs) returns-3)

@@ -6,12 +6,6 @@ use Rattle.view.proofs.Lengths.{index-reads-long}
 use Rattle.look.proofs.stamps.record_stamp.Statement.{statement}
 use Rattle.look.proofs.stamps.record_stamp.Tie as tie
 
-index-reads-of-requires : tie.Need-index-reads-of-requires
-index-reads-of-requires c κs = search needs
-
-has-stripe-requires : tie.Need-has-stripe-requires
-has-stripe-requires c κs = search needs
-
 returns : tie.Need-returns
 returns c = stamp-before _ _ _ _ _ (c .before .before .index-reads-of .ensures) (c .before .has-stripe .ensures) (c .if1 .taken)
 
@@ -19,12 +13,6 @@ add-l : tie.Need-add-l
 add-l c =
     let x = c .before .before .before .args .x in
     let few = list-short _ (x .«index_reads») (x .«index_read_count») (index-reads-long x (c .before .before .before .good .0)) (c .before .before .index-reads-of .ensures) in omega arith
-
-mul-t11 : tie.Need-mul-t11
-mul-t11 c = search needs
-
-element-set-from-l : tie.Need-element-set-from-l
-element-set-from-l c = search needs
 
 returns-2 : tie.Need-returns-2
 returns-2 c = stamp-room _ _ _ _ _ (c .before .before .before .index-reads-of .ensures) (c .before .before .has-stripe .ensures) (c .before .if1 .left) (c .if2 .taken)
@@ -34,13 +22,4 @@ returns-3 c = stamp-over _ _ _ _ _ (c .before .before .before .index-reads-of .e
 
 pub record-stamp-spec : {M : Type 1} → statement M
 record-stamp-spec =
-    tie.close
-    (tie.spec
-    index-reads-of-requires
-    has-stripe-requires
-    returns
-    add-l
-    mul-t11
-    element-set-from-l
-    returns-2
-    returns-3)
+    tie.close (tie.spec (λ c κs. search needs) (λ c κs. search needs) returns add-l (λ c. search needs) (λ c. search needs) returns-2 returns-3)

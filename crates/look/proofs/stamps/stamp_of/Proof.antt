@@ -7,14 +7,8 @@ use Rattle.view.specs.Lent.{array-at}
 use Rattle.look.proofs.stamps.stamp_of.Statement.{statement}
 use Rattle.look.proofs.stamps.stamp_of.Tie as tie
 
-mul-t4 : tie.Need-mul-t4
-mul-t4 c = search needs
-
-element-copy-out-t7 : tie.Need-element-copy-out-t7
-element-copy-out-t7 c = search needs
-
 returns : tie.Need-returns
 returns c = sym (array-at stripes 0 _ _ (omega arith))
 
 pub stamp-of-spec : {M : Type 1} → statement M
-stamp-of-spec = tie.close (tie.spec mul-t4 element-copy-out-t7 returns)
+stamp-of-spec = tie.close (tie.spec (λ c. search needs) (λ c. search needs) returns)

@@ -19,47 +19,11 @@ abbrev μ-loop : tie.MeasureT-loop
 loop-holds : tie.Need-loop-holds Inv-loop μ-loop
 loop-holds c = (refl, clear-start _ _ _)
 
-mul-place : tie.Need-mul-place Inv-loop μ-loop
-mul-place c = search needs
-
-shared-slice-read-place : tie.Need-shared-slice-read-place Inv-loop μ-loop
-shared-slice-read-place c = search needs
-
-place-requires : tie.Need-place-requires Inv-loop μ-loop
-place-requires c κs = search needs
-
-add-r : tie.Need-add-r Inv-loop μ-loop
-add-r c = search needs
-
-mul-is-finished : tie.Need-mul-is-finished Inv-loop μ-loop
-mul-is-finished c = search needs
-
-slice-read-is-finished : tie.Need-slice-read-is-finished Inv-loop μ-loop
-slice-read-is-finished c = search needs
-
-is-finished-requires : tie.Need-is-finished-requires Inv-loop μ-loop
-is-finished-requires c κs = search needs
-
-mul-xmax : tie.Need-mul-xmax Inv-loop μ-loop
-mul-xmax c = search needs
-
-slice-write-xmax : tie.Need-slice-write-xmax Inv-loop μ-loop
-slice-write-xmax c = search needs
-
-loop-less : tie.Need-loop-less Inv-loop μ-loop
-loop-less c = search needs
-
 loop-again : tie.Need-loop-again Inv-loop μ-loop
 loop-again c = let a = c .before .before .before .before .before .before .before in (simp length-set (a .loop .inv .0), clear-set _ _ _ _ _ (c .before .before .before .before .before .before .loop-test .taken) (c .before .before .before .before .place .ensures) (sym (c .before .is-finished .ensures) ∙ not-true _ (c .if2 .taken)) ∙ a .loop .inv .1)
 
-loop-less-2 : tie.Need-loop-less-2 Inv-loop μ-loop
-loop-less-2 c = search needs
-
 loop-again-2 : tie.Need-loop-again-2 Inv-loop μ-loop
 loop-again-2 c = let a = c .before .before .before .before .before .before .before in (a .loop .inv .0, clear-stay _ _ _ _ _ (c .before .before .before .before .before .before .loop-test .taken) (c .before .before .before .before .place .ensures) (sym (c .before .is-finished .ensures) ∙ not-false _ (c .if2 .left)) ∙ a .loop .inv .1)
-
-loop-less-3 : tie.Need-loop-less-3 Inv-loop μ-loop
-loop-less-3 c = search needs
 
 loop-again-3 : tie.Need-loop-again-3 Inv-loop μ-loop
 loop-again-3 c = let a = c .before .before .before .before in (a .loop .inv .0, clear-past _ _ _ _ _ (c .before .before .before .loop-test .taken) (c .before .place .ensures) (c .if1 .left) ∙ a .loop .inv .1)
@@ -72,25 +36,6 @@ returns c = clear-end _ _ _ _ (c .loop-test .left) ∙ c .before .loop .inv .1
 
 pub clear-heads-spec : {M : Type 1} → statement M
 clear-heads-spec =
-    tie.close
-    (tie.spec
-    Inv-loop
-    μ-loop
-    loop-holds
-    mul-place
-    shared-slice-read-place
-    place-requires
-    add-r
-    mul-is-finished
-    slice-read-is-finished
-    is-finished-requires
-    mul-xmax
-    slice-write-xmax
-    loop-less
-    loop-again
-    loop-less-2
-    loop-again-2
-    loop-less-3
-    loop-again-3
-    same-length
-    returns)
+    tie.close (tie.spec Inv-loop μ-loop loop-holds (λ c. search needs) (λ c. search needs) (λ c κs. search needs) (λ c. search needs)
+    (λ c. search needs) (λ c. search needs) (λ c κs. search needs) (λ c. search needs) (λ c. search needs) (λ c. search needs) loop-again
+    (λ c. search needs) loop-again-2 (λ c. search needs) loop-again-3 same-length returns)

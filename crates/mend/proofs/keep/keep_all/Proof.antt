@@ -3,11 +3,8 @@ use borrow.Author.Needs.{needs}
 use Rattle.mend.proofs.keep.keep_all.Statement.{statement}
 use Rattle.mend.proofs.keep.keep_all.Tie as tie
 
-keep-slots-requires : tie.Need-keep-slots-requires
-keep-slots-requires c κs = search needs
-
 returns : tie.Need-returns
 returns c = c .keep-slots .ensures
 
 pub keep-all-spec : {M : Type 1} → statement M
-keep-all-spec = tie.close (tie.spec keep-slots-requires returns)
+keep-all-spec = tie.close (tie.spec (λ c κs. search needs) returns)

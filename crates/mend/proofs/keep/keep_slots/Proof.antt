@@ -20,51 +20,12 @@ abbrev μ-loop : tie.MeasureT-loop
 loop-holds : tie.Need-loop-holds Inv-loop μ-loop
 loop-holds c = let p = c .before .before .before .before .before .before .pre in (omega arith, kept-start (p .0), kept-start (p .1 .0), kept-start (p .1 .1 .0), kept-start (p .1 .1 .1 .0), kept-start (p .1 .1 .1 .1))
 
-add-i : tie.Need-add-i Inv-loop μ-loop
-add-i c = search needs
-
-is-on-requires : tie.Need-is-on-requires Inv-loop μ-loop
-is-on-requires c κs = search needs
-
-mul-xmin : tie.Need-mul-xmin Inv-loop μ-loop
-mul-xmin c = search needs
-
-slice-write-xmin : tie.Need-slice-write-xmin Inv-loop μ-loop
-slice-write-xmin c = search needs
-
-mul-xmax : tie.Need-mul-xmax Inv-loop μ-loop
-mul-xmax c = search needs
-
-slice-write-xmax : tie.Need-slice-write-xmax Inv-loop μ-loop
-slice-write-xmax c = search needs
-
-mul-next : tie.Need-mul-next Inv-loop μ-loop
-mul-next c = search needs
-
-slice-write-next : tie.Need-slice-write-next Inv-loop μ-loop
-slice-write-next c = search needs
-
-mul-key : tie.Need-mul-key Inv-loop μ-loop
-mul-key c = search needs
-
-slice-write-key : tie.Need-slice-write-key Inv-loop μ-loop
-slice-write-key c = search needs
-
-slice-write-has : tie.Need-slice-write-has Inv-loop μ-loop
-slice-write-has c = search needs
-
-loop-less : tie.Need-loop-less Inv-loop μ-loop
-loop-less c = search needs
-
 loop-again : tie.Need-loop-again Inv-loop μ-loop
 loop-again c =
     let k = c .before .before .before .loop .inv in
     let h = c .before .before .loop-test .taken in
     let off = sym (c .before .is-on .ensures) ∙ not-true _ (c .if1 .taken) in
     (omega arith, kept-clear (k .1) h off, kept-clear (k .2) h off, kept-clear (k .3) h off, kept-clear (k .4) h off, kept-clear (k .5) h off)
-
-loop-less-2 : tie.Need-loop-less-2 Inv-loop μ-loop
-loop-less-2 c = search needs
 
 loop-again-2 : tie.Need-loop-again-2 Inv-loop μ-loop
 loop-again-2 c =
@@ -96,29 +57,6 @@ returns c =
 
 pub keep-slots-spec : {M : Type 1} → statement M
 keep-slots-spec =
-    tie.close
-    (tie.spec
-    Inv-loop
-    μ-loop
-    loop-holds
-    add-i
-    is-on-requires
-    mul-xmin
-    slice-write-xmin
-    mul-xmax
-    slice-write-xmax
-    mul-next
-    slice-write-next
-    mul-key
-    slice-write-key
-    slice-write-has
-    loop-less
-    loop-again
-    loop-less-2
-    loop-again-2
-    same-length
-    same-length-2
-    same-length-3
-    same-length-4
-    same-length-5
-    returns)
+    tie.close (tie.spec Inv-loop μ-loop loop-holds (λ c. search needs) (λ c κs. search needs) (λ c. search needs) (λ c. search needs)
+    (λ c. search needs) (λ c. search needs) (λ c. search needs) (λ c. search needs) (λ c. search needs) (λ c. search needs) (λ c. search needs)
+    (λ c. search needs) loop-again (λ c. search needs) loop-again-2 same-length same-length-2 same-length-3 same-length-4 same-length-5 returns)

@@ -4,14 +4,8 @@ use borrow.Author.Needs.{needs}
 use Rattle.mend.proofs.reads.is_on.Statement.{statement}
 use Rattle.mend.proofs.reads.is_on.Tie as tie
 
-shared-slice-read-result : tie.Need-shared-slice-read-result
-shared-slice-read-result c = search needs
-
-returns : tie.Need-returns
-returns c = search needs
-
 returns-2 : tie.Need-returns-2
 returns-2 c = rw (List·getD-eq-default (c .before .args .seen .now) 0 {n = c .before .args .i} (c .if1 .left))
 
 pub is-on-spec : {M : Type 1} → statement M
-is-on-spec = tie.close (tie.spec shared-slice-read-result returns returns-2)
+is-on-spec = tie.close (tie.spec (λ c. search needs) (λ c. search needs) returns-2)

@@ -18,44 +18,8 @@ abbrev μ-loop : tie.MeasureT-loop
 loop-holds : tie.Need-loop-holds Inv-loop μ-loop
 loop-holds c = let s = c .before .before .before .args in (omega arith, rebuild-start (s .key .now) (s .has .now) (s .heads .now))
 
-sub-r : tie.Need-sub-r Inv-loop μ-loop
-sub-r c = search needs
-
-mul-place : tie.Need-mul-place Inv-loop μ-loop
-mul-place c = search needs
-
-element-copy-out-place : tie.Need-element-copy-out-place Inv-loop μ-loop
-element-copy-out-place c = search needs
-
-place-requires : tie.Need-place-requires Inv-loop μ-loop
-place-requires c κs = search needs
-
-flag-at-requires : tie.Need-flag-at-requires Inv-loop μ-loop
-flag-at-requires c κs = search needs
-
-word-at-requires : tie.Need-word-at-requires Inv-loop μ-loop
-word-at-requires c κs = search needs
-
-cast-k : tie.Need-cast-k Inv-loop μ-loop
-cast-k c = search needs
-
-mul-insert : tie.Need-mul-insert Inv-loop μ-loop
-mul-insert c = search needs
-
-add-insert : tie.Need-add-insert Inv-loop μ-loop
-add-insert c = search needs
-
-insert-requires : tie.Need-insert-requires Inv-loop μ-loop
-insert-requires c κs = search needs
-
-loop-less : tie.Need-loop-less Inv-loop μ-loop
-loop-less c = search needs
-
 loop-again : tie.Need-loop-again Inv-loop μ-loop
 loop-again c = let s = c .before .before .before .before .before .before .before .before .before .before .before .before .args in let a = c .before .before .before .before .before .before .before .before in (omega arith, rebuild-put (s .key .now) (s .has .now) (s .heads .now) (a .loop .x) (a .loop .n) (a .loop .r) (c .before .before .before .before .before .place .result) (omega arith) (omega arith) (c .before .before .before .before .before .place .ensures) (a .loop .inv .1) (c .before .before .word-at .result) (sym (c .before .before .before .before .flag-at .ensures) ∙ c .before .before .before .if1 .taken) (c .before .before .word-at .ensures) (c .insert .ensures))
-
-loop-less-2 : tie.Need-loop-less-2 Inv-loop μ-loop
-loop-less-2 c = search needs
 
 loop-again-2 : tie.Need-loop-again-2 Inv-loop μ-loop
 loop-again-2 c = let s = c .before .before .before .before .before .before .before .before .before .args in let a = c .before .before .before .before .before in (omega arith, rebuild-none (s .key .now) (s .has .now) (s .heads .now) (a .loop .x) (a .loop .n) (a .loop .r) (c .before .before .place .result) (omega arith) (omega arith) (c .before .before .place .ensures) (a .loop .inv .1) (sym (c .before .flag-at .ensures) ∙ c .if1 .left))
@@ -65,23 +29,6 @@ returns c = let s = c .before .before .before .before .before .args in rebuild-e
 
 pub rebuild-spec : {M : Type 1} → statement M
 rebuild-spec =
-    tie.close
-    (tie.spec
-    Inv-loop
-    μ-loop
-    loop-holds
-    sub-r
-    mul-place
-    element-copy-out-place
-    place-requires
-    flag-at-requires
-    word-at-requires
-    cast-k
-    mul-insert
-    add-insert
-    insert-requires
-    loop-less
-    loop-again
-    loop-less-2
-    loop-again-2
-    returns)
+    tie.close (tie.spec Inv-loop μ-loop loop-holds (λ c. search needs) (λ c. search needs) (λ c. search needs) (λ c κs. search needs)
+    (λ c κs. search needs) (λ c κs. search needs) (λ c. search needs) (λ c. search needs) (λ c. search needs) (λ c κs. search needs)
+    (λ c. search needs) loop-again (λ c. search needs) loop-again-2 returns)

@@ -20,24 +20,6 @@ abbrev μ-loop : tie.MeasureT-loop
 loop-holds : tie.Need-loop-holds Inv-loop μ-loop
 loop-holds c = (refl, map-start _ _)
 
-mul-trimmed : tie.Need-mul-trimmed Inv-loop μ-loop
-mul-trimmed c = search needs
-
-slice-read-trimmed : tie.Need-slice-read-trimmed Inv-loop μ-loop
-slice-read-trimmed c = search needs
-
-trimmed-requires : tie.Need-trimmed-requires Inv-loop μ-loop
-trimmed-requires c κs = search needs
-
-mul-heads : tie.Need-mul-heads Inv-loop μ-loop
-mul-heads c = search needs
-
-slice-write-heads : tie.Need-slice-write-heads Inv-loop μ-loop
-slice-write-heads c = search needs
-
-add-r : tie.Need-add-r Inv-loop μ-loop
-add-r c = search needs
-
 loop-less : tie.Need-loop-less Inv-loop μ-loop
 loop-less c = simp length-set (omega arith)
 
@@ -52,18 +34,5 @@ returns c = map-end _ _ _ (c .loop-test .left) ∙ c .before .loop .inv .1
 
 pub trim-heads-spec : {M : Type 1} → statement M
 trim-heads-spec =
-    tie.close
-    (tie.spec
-    Inv-loop
-    μ-loop
-    loop-holds
-    mul-trimmed
-    slice-read-trimmed
-    trimmed-requires
-    mul-heads
-    slice-write-heads
-    add-r
-    loop-less
-    loop-again
-    same-length
-    returns)
+    tie.close (tie.spec Inv-loop μ-loop loop-holds (λ c. search needs) (λ c. search needs) (λ c κs. search needs) (λ c. search needs)
+    (λ c. search needs) (λ c. search needs) loop-less loop-again same-length returns)

@@ -9,18 +9,6 @@ use Rattle.mend.proofs.trim.trimmed.Tie as tie
 returns : tie.Need-returns
 returns c = let a = c .before .before .before .before .args in trim-none (finished (a .active .now) (a .doomed)) (a .xmin .now) (a .next .now) (a .h) (c .if1 .taken)
 
-place-requires : tie.Need-place-requires
-place-requires c κs = search needs
-
-txid-at-requires : tie.Need-txid-at-requires
-txid-at-requires c κs = search needs
-
-is-finished-requires : tie.Need-is-finished-requires
-is-finished-requires c κs = search needs
-
-word-at-requires : tie.Need-word-at-requires
-word-at-requires c κs = search needs
-
 returns-2 : tie.Need-returns-2
 returns-2 c = let a = c .before .before .before .before .before .before .before .before .args in trim-stay (finished (a .active .now) (a .doomed)) (a .xmin .now) (a .next .now) (a .h) _ _ (c .before .before .before .place .ensures) (c .before .before .txid-at .ensures) (c .before .before .before .before .if1 .left) (sym (c .before .is-finished .ensures) ∙ c .if2 .taken)
 
@@ -29,12 +17,4 @@ returns-3 c = let a = c .before .before .before .before .before .before .before 
 
 pub trimmed-spec : {M : Type 1} → statement M
 trimmed-spec =
-    tie.close
-    (tie.spec
-    returns
-    place-requires
-    txid-at-requires
-    is-finished-requires
-    word-at-requires
-    returns-2
-    returns-3)
+    tie.close (tie.spec returns (λ c κs. search needs) (λ c κs. search needs) (λ c κs. search needs) (λ c κs. search needs) returns-2 returns-3)

@@ -7,11 +7,8 @@ use borrow.Author.Needs.{needs}
 use Rattle.plan.proofs.blocks.push_drop.Statement.{statement}
 use Rattle.plan.proofs.blocks.push_drop.Tie as tie
 
-push-requires : tie.Need-push-requires
-push-requires c κs = search needs
-
 returns : tie.Need-returns
 returns c = one-put kDrop _ (omega arith) refl (c .push .ensures)
 
 pub push-drop-spec : {M : Type 1} → statement M
-push-drop-spec = tie.close (tie.spec push-requires returns)
+push-drop-spec = tie.close (tie.spec (λ c κs. search needs) returns)

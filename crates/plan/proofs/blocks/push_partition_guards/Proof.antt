@@ -4,11 +4,8 @@ use borrow.Author.Needs.{needs}
 use Rattle.plan.proofs.blocks.push_partition_guards.Statement.{statement}
 use Rattle.plan.proofs.blocks.push_partition_guards.Tie as tie
 
-push-marked-requires : tie.Need-push-marked-requires
-push-marked-requires c κs = search needs
-
 returns : tie.Need-returns
 returns c = λ x e. partition-guards x _ e (c .push-marked .ensures)
 
 pub push-partition-guards-spec : {M : Type 1} → statement M
-push-partition-guards-spec = tie.close (tie.spec push-marked-requires returns)
+push-partition-guards-spec = tie.close (tie.spec (λ c κs. search needs) returns)

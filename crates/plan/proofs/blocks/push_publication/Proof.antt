@@ -4,11 +4,8 @@ use borrow.Author.Needs.{needs}
 use Rattle.plan.proofs.blocks.push_publication.Statement.{statement}
 use Rattle.plan.proofs.blocks.push_publication.Tie as tie
 
-push-writes-requires : tie.Need-push-writes-requires
-push-writes-requires c κs = search needs
-
 returns : tie.Need-returns
 returns c = λ S x e f ok. publishes S x _ _ e f ok (c .push-writes .ensures)
 
 pub push-publication-spec : {M : Type 1} → statement M
-push-publication-spec = tie.close (tie.spec push-writes-requires returns)
+push-publication-spec = tie.close (tie.spec (λ c κs. search needs) returns)

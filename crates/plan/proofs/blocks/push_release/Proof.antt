@@ -4,15 +4,8 @@ use borrow.Author.Needs.{needs}
 use Rattle.plan.proofs.blocks.push_release.Statement.{statement}
 use Rattle.plan.proofs.blocks.push_release.Tie as tie
 
-push-partition-guards-requires : tie.Need-push-partition-guards-requires
-push-partition-guards-requires c κs = search needs
-
-push-index-guards-requires : tie.Need-push-index-guards-requires
-push-index-guards-requires c κs = search needs
-
 returns : tie.Need-returns
 returns c = λ S x e f ok. releases S x (c .before .before .push-partition-guards .ensures x f) (c .push-index-guards .ensures S x e ok)
 
 pub push-release-spec : {M : Type 1} → statement M
-push-release-spec =
-    tie.close (tie.spec push-partition-guards-requires push-index-guards-requires returns)
+push-release-spec = tie.close (tie.spec (λ c κs. search needs) (λ c κs. search needs) returns)

@@ -4,14 +4,8 @@ use borrow.Author.Needs.{needs}
 use Rattle.plan.proofs.blocks.push_removals.Statement.{statement}
 use Rattle.plan.proofs.blocks.push_removals.Tie as tie
 
-clipped-requires : tie.Need-clipped-requires
-clipped-requires c κs = search needs
-
-push-listed-requires : tie.Need-push-listed-requires
-push-listed-requires c κs = search needs
-
 returns : tie.Need-returns
 returns c = λ S x e ok. removes S x _ _ e ok (c .before .before .before .before .before .clipped .ensures) (c .push-listed .ensures)
 
 pub push-removals-spec : {M : Type 1} → statement M
-push-removals-spec = tie.close (tie.spec clipped-requires push-listed-requires returns)
+push-removals-spec = tie.close (tie.spec (λ c κs. search needs) (λ c κs. search needs) returns)

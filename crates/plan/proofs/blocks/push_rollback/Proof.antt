@@ -4,14 +4,8 @@ use borrow.Author.Needs.{needs}
 use Rattle.plan.proofs.blocks.push_rollback.Statement.{statement}
 use Rattle.plan.proofs.blocks.push_rollback.Tie as tie
 
-clipped-requires : tie.Need-clipped-requires
-clipped-requires c κs = search needs
-
-push-back-requires : tie.Need-push-back-requires
-push-back-requires c κs = search needs
-
 returns : tie.Need-returns
 returns c = λ S x e ok. rolls-back S x _ _ _ e ok (c .before .before .before .before .before .clipped .ensures) (c .push-back .ensures)
 
 pub push-rollback-spec : {M : Type 1} → statement M
-push-rollback-spec = tie.close (tie.spec clipped-requires push-back-requires returns)
+push-rollback-spec = tie.close (tie.spec (λ c κs. search needs) (λ c κs. search needs) returns)

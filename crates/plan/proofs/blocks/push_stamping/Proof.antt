@@ -4,11 +4,8 @@ use borrow.Author.Needs.{needs}
 use Rattle.plan.proofs.blocks.push_stamping.Statement.{statement}
 use Rattle.plan.proofs.blocks.push_stamping.Tie as tie
 
-push-marked-requires : tie.Need-push-marked-requires
-push-marked-requires c κs = search needs
-
 returns : tie.Need-returns
 returns c = λ S x e f. stamps S x _ _ e f (c .push-marked .ensures)
 
 pub push-stamping-spec : {M : Type 1} → statement M
-push-stamping-spec = tie.close (tie.spec push-marked-requires returns)
+push-stamping-spec = tie.close (tie.spec (λ c κs. search needs) returns)

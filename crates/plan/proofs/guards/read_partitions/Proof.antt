@@ -21,27 +21,9 @@ Inv-loop x q₀ n i₀ q i =
 abbrev μ-loop : tie.MeasureT-loop
 μ-loop x q₀ n i₀ q i = n - i
 
-clipped-requires : tie.Need-clipped-requires Inv-loop μ-loop
-clipped-requires c κs = search needs
-
 loop-holds : tie.Need-loop-holds Inv-loop μ-loop
 unfolding firstFrom
 loop-holds c = (omega arith, c .clipped .ensures, refl)
-
-mul-e : tie.Need-mul-e Inv-loop μ-loop
-mul-e c = search needs
-
-element-copy-out-e : tie.Need-element-copy-out-e Inv-loop μ-loop
-element-copy-out-e c = search needs
-
-add-i : tie.Need-add-i Inv-loop μ-loop
-add-i c = search needs
-
-array-write-q : tie.Need-array-write-q Inv-loop μ-loop
-array-write-q c = search needs
-
-loop-less : tie.Need-loop-less Inv-loop μ-loop
-loop-less c = search needs
 
 loop-again : tie.Need-loop-again Inv-loop μ-loop
 loop-again c =
@@ -56,16 +38,5 @@ returns c =
 
 pub read-partitions-spec : {M : Type 1} → statement M
 read-partitions-spec =
-    tie.close
-    (tie.spec
-    Inv-loop
-    μ-loop
-    clipped-requires
-    loop-holds
-    mul-e
-    element-copy-out-e
-    add-i
-    array-write-q
-    loop-less
-    loop-again
-    returns)
+    tie.close (tie.spec Inv-loop μ-loop (λ c κs. search needs) loop-holds (λ c. search needs) (λ c. search needs) (λ c. search needs)
+    (λ c. search needs) (λ c. search needs) loop-again returns)

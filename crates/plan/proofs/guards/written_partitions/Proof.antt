@@ -20,27 +20,9 @@ Inv-loop x q₀ n i₀ q i =
 abbrev μ-loop : tie.MeasureT-loop
 μ-loop x q₀ n i₀ q i = n - i
 
-clipped-requires : tie.Need-clipped-requires Inv-loop μ-loop
-clipped-requires c κs = search needs
-
 loop-holds : tie.Need-loop-holds Inv-loop μ-loop
 unfolding firstFrom noPartitions writtenMarks
 loop-holds c = (omega arith, c .clipped .ensures, refl)
-
-mul-w : tie.Need-mul-w Inv-loop μ-loop
-mul-w c = search needs
-
-element-copy-out-w : tie.Need-element-copy-out-w Inv-loop μ-loop
-element-copy-out-w c = search needs
-
-add-i : tie.Need-add-i Inv-loop μ-loop
-add-i c = search needs
-
-array-write-q : tie.Need-array-write-q Inv-loop μ-loop
-array-write-q c = search needs
-
-loop-less : tie.Need-loop-less Inv-loop μ-loop
-loop-less c = search needs
 
 loop-again : tie.Need-loop-again Inv-loop μ-loop
 loop-again c =
@@ -55,16 +37,5 @@ returns c =
 
 pub written-partitions-spec : {M : Type 1} → statement M
 written-partitions-spec =
-    tie.close
-    (tie.spec
-    Inv-loop
-    μ-loop
-    clipped-requires
-    loop-holds
-    mul-w
-    element-copy-out-w
-    add-i
-    array-write-q
-    loop-less
-    loop-again
-    returns)
+    tie.close (tie.spec Inv-loop μ-loop (λ c κs. search needs) loop-holds (λ c. search needs) (λ c. search needs) (λ c. search needs)
+    (λ c. search needs) (λ c. search needs) loop-again returns)

@@ -19,36 +19,9 @@ Inv-loop key has count at end m₀ i₀ m i =
 abbrev μ-loop : tie.MeasureT-loop
 μ-loop key has count at end m₀ i₀ m i = end - i
 
-clipped-requires : tie.Need-clipped-requires Inv-loop μ-loop
-clipped-requires c κs = search needs
-
 loop-holds : tie.Need-loop-holds Inv-loop μ-loop
 unfolding codesOf noStripes changedMarks movesOf destinations sources
 loop-holds c = (omega arith, c .clipped .ensures, rw (changes-none _ _ _ _))
-
-mul-w : tie.Need-mul-w Inv-loop μ-loop
-mul-w c = search needs
-
-array-copy-out-w : tie.Need-array-copy-out-w Inv-loop μ-loop
-array-copy-out-w c = search needs
-
-add-i : tie.Need-add-i Inv-loop μ-loop
-add-i c = search needs
-
-value-at-requires : tie.Need-value-at-requires Inv-loop μ-loop
-value-at-requires c κs = search needs
-
-value-at-requires-2 : tie.Need-value-at-requires-2 Inv-loop μ-loop
-value-at-requires-2 c κs = search needs
-
-same-value-requires : tie.Need-same-value-requires Inv-loop μ-loop
-same-value-requires c κs = search needs
-
-with-change-requires : tie.Need-with-change-requires Inv-loop μ-loop
-with-change-requires c κs = search needs
-
-loop-less : tie.Need-loop-less Inv-loop μ-loop
-loop-less c = search needs
 
 loop-again : tie.Need-loop-again Inv-loop μ-loop
 loop-again c =
@@ -56,9 +29,6 @@ loop-again c =
     let long : length (a .t3) ≡ writeLimit = c .before .before .before .before .before .before .before .before .before .good .1 .1 .0 .1 .0 .1 in
     let few = changes-to-few (atPlaces (a .key .now)) (flagsAtPlaces (a .has .now)) (a .t3) (a .count) (c .before .before .before .before .before .before .before .loop .i) in
     (omega arith, omega arith, c .with-change .ensures _ (c .before .before .before .before .before .before .before .loop .inv .2) (omega arith) ∙ ap movesOf (sym (next-new _ _ (a .t3) (a .count) _ (omega arith) _ _ (c .before .before .before .before .value-at .ensures) (c .before .before .before .value-at2 .ensures) (sym (c .before .before .same-value .ensures) ∙ not-true _ (c .before .if1 .taken)))))
-
-loop-less-2 : tie.Need-loop-less-2 Inv-loop μ-loop
-loop-less-2 c = search needs
 
 loop-again-2 : tie.Need-loop-again-2 Inv-loop μ-loop
 loop-again-2 c =
@@ -74,21 +44,6 @@ returns c =
 
 pub index-changes-spec : {M : Type 1} → statement M
 index-changes-spec =
-    tie.close
-    (tie.spec
-    Inv-loop
-    μ-loop
-    clipped-requires
-    loop-holds
-    mul-w
-    array-copy-out-w
-    add-i
-    value-at-requires
-    value-at-requires-2
-    same-value-requires
-    with-change-requires
-    loop-less
-    loop-again
-    loop-less-2
-    loop-again-2
-    returns)
+    tie.close (tie.spec Inv-loop μ-loop (λ c κs. search needs) loop-holds (λ c. search needs) (λ c. search needs) (λ c. search needs)
+    (λ c κs. search needs) (λ c κs. search needs) (λ c κs. search needs) (λ c κs. search needs) (λ c. search needs) loop-again (λ c. search needs)
+    loop-again-2 returns)

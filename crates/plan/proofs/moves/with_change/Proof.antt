@@ -4,27 +4,8 @@ use borrow.Author.Needs.{needs}
 use Rattle.plan.proofs.moves.with_change.Statement.{statement}
 use Rattle.plan.proofs.moves.with_change.Tie as tie
 
-with-value-requires : tie.Need-with-value-requires
-with-value-requires c κs = search needs
-
-with-value-requires-2 : tie.Need-with-value-requires-2
-with-value-requires-2 c κs = search needs
-
-with-stripe-requires : tie.Need-with-stripe-requires
-with-stripe-requires c κs = search needs
-
-with-stripe-requires-2 : tie.Need-with-stripe-requires-2
-with-stripe-requires-2 c κs = search needs
-
 returns : tie.Need-returns
 returns c = λ cs e h. change-more _ _ cs e h (c .before .before .before .before .with-value .ensures) (c .before .before .before .with-value2 .ensures) (c .before .with-stripe .ensures) (c .with-stripe2 .ensures)
 
 pub with-change-spec : {M : Type 1} → statement M
-with-change-spec =
-    tie.close
-    (tie.spec
-    with-value-requires
-    with-value-requires-2
-    with-stripe-requires
-    with-stripe-requires-2
-    returns)
+with-change-spec = tie.close (tie.spec (λ c κs. search needs) (λ c κs. search needs) (λ c κs. search needs) (λ c κs. search needs) returns)

@@ -5,15 +5,6 @@ use borrow.Author.Needs.{needs}
 use Rattle.plan.proofs.moves.with_code.Statement.{statement}
 use Rattle.plan.proofs.moves.with_code.Tie as tie
 
-mul-r : tie.Need-mul-r
-mul-r c = search needs
-
-element-write-r : tie.Need-element-write-r
-element-write-r c = search needs
-
-add-r : tie.Need-add-r
-add-r c = search needs
-
 returns : tie.Need-returns
 returns c = λ m e h. code-more _ _ m e h
 
@@ -21,4 +12,4 @@ returns-2 : tie.Need-returns-2
 returns-2 c = λ m e h. absurd (omega (arith, code-room _ 0 m e h))
 
 pub with-code-spec : {M : Type 1} → statement M
-with-code-spec = tie.close (tie.spec mul-r element-write-r add-r returns returns-2)
+with-code-spec = tie.close (tie.spec (λ c. search needs) (λ c. search needs) (λ c. search needs) returns returns-2)

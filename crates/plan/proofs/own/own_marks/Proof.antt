@@ -21,27 +21,6 @@ loop-holds : tie.Need-loop-holds Inv-loop μ-loop
 unfolding ownMarks noSlots
 loop-holds c = (omega arith, refl)
 
-add-i : tie.Need-add-i Inv-loop μ-loop
-add-i c = search needs
-
-mul-if1 : tie.Need-mul-if1 Inv-loop μ-loop
-mul-if1 c = search needs
-
-element-copy-out-if1 : tie.Need-element-copy-out-if1 Inv-loop μ-loop
-element-copy-out-if1 c = search needs
-
-cast-t13 : tie.Need-cast-t13 Inv-loop μ-loop
-cast-t13 c = search needs
-
-is-own-requires : tie.Need-is-own-requires Inv-loop μ-loop
-is-own-requires c κs = search needs
-
-array-write-m : tie.Need-array-write-m Inv-loop μ-loop
-array-write-m c = search needs
-
-loop-less : tie.Need-loop-less Inv-loop μ-loop
-loop-less c = search needs
-
 loop-again : tie.Need-loop-again Inv-loop μ-loop
 loop-again c =
     let a = c .before .before .before .before .before .before .args in
@@ -49,18 +28,12 @@ loop-again c =
     let e = own-here (a .xmin .now) (atPlaces (a .seen .now)) (a .t .0) i (omega arith) (c .before .before .if1 .taken) (c .before .is-own .ensures) (c .if2 .taken) in
     (omega arith, rw e at (c .before .before .before .before .before .loop .inv .1))
 
-loop-less-2 : tie.Need-loop-less-2 Inv-loop μ-loop
-loop-less-2 c = search needs
-
 loop-again-2 : tie.Need-loop-again-2 Inv-loop μ-loop
 loop-again-2 c =
     let a = c .before .before .before .before .before .before .args in
     let i = c .before .before .before .before .before .loop .i in
     let e = own-not (a .xmin .now) (atPlaces (a .seen .now)) (a .t .0) i (omega arith) (c .before .before .if1 .taken) (c .before .is-own .ensures) (c .if2 .left) in
     (omega arith, rw e at (c .before .before .before .before .before .loop .inv .1))
-
-loop-less-3 : tie.Need-loop-less-3 Inv-loop μ-loop
-loop-less-3 c = search needs
 
 loop-again-3 : tie.Need-loop-again-3 Inv-loop μ-loop
 loop-again-3 c =
@@ -77,21 +50,6 @@ returns c =
 
 pub own-marks-spec : {M : Type 1} → statement M
 own-marks-spec =
-    tie.close
-    (tie.spec
-    Inv-loop
-    μ-loop
-    loop-holds
-    add-i
-    mul-if1
-    element-copy-out-if1
-    cast-t13
-    is-own-requires
-    array-write-m
-    loop-less
-    loop-again
-    loop-less-2
-    loop-again-2
-    loop-less-3
-    loop-again-3
+    tie.close (tie.spec Inv-loop μ-loop loop-holds (λ c. search needs) (λ c. search needs) (λ c. search needs) (λ c. search needs)
+    (λ c κs. search needs) (λ c. search needs) (λ c. search needs) loop-again (λ c. search needs) loop-again-2 (λ c. search needs) loop-again-3
     returns)

@@ -19,38 +19,14 @@ Inv-loop count at m₀ n i₀ m i =
 abbrev μ-loop : tie.MeasureT-loop
 μ-loop count at m₀ n i₀ m i = n - i
 
-clipped-requires : tie.Need-clipped-requires Inv-loop μ-loop
-clipped-requires c κs = search needs
-
 loop-holds : tie.Need-loop-holds Inv-loop μ-loop
 unfolding firstFrom
 loop-holds c = (omega arith, c .clipped .ensures, search needs, refl)
-
-mul-w : tie.Need-mul-w Inv-loop μ-loop
-mul-w c = search needs
-
-array-copy-out-w : tie.Need-array-copy-out-w Inv-loop μ-loop
-array-copy-out-w c = search needs
-
-cast-p : tie.Need-cast-p Inv-loop μ-loop
-cast-p c = search needs
-
-add-i : tie.Need-add-i Inv-loop μ-loop
-add-i c = search needs
-
-array-write-m : tie.Need-array-write-m Inv-loop μ-loop
-array-write-m c = search needs
-
-loop-less : tie.Need-loop-less Inv-loop μ-loop
-loop-less c = search needs
 
 loop-again : tie.Need-loop-again Inv-loop μ-loop
 loop-again c =
     let long : length (c .before .before .before .before .before .before .args .t2) ≡ writeLimit = c .before .before .before .before .before .before .good .1 .0 .1 .0 .1 in
     (omega arith, omega arith, search needs, sym (unmark-next newOf _ _ _ _ (first-next _ _ _ noWrite (omega arith))) ∙ c .before .before .before .before .loop .inv .3)
-
-loop-less-2 : tie.Need-loop-less-2 Inv-loop μ-loop
-loop-less-2 c = search needs
 
 loop-again-2 : tie.Need-loop-again-2 Inv-loop μ-loop
 loop-again-2 c =
@@ -65,19 +41,5 @@ returns c =
 
 pub recycled-marks-spec : {M : Type 1} → statement M
 recycled-marks-spec =
-    tie.close
-    (tie.spec
-    Inv-loop
-    μ-loop
-    clipped-requires
-    loop-holds
-    mul-w
-    array-copy-out-w
-    cast-p
-    add-i
-    array-write-m
-    loop-less
-    loop-again
-    loop-less-2
-    loop-again-2
-    returns)
+    tie.close (tie.spec Inv-loop μ-loop (λ c κs. search needs) loop-holds (λ c. search needs) (λ c. search needs) (λ c. search needs)
+    (λ c. search needs) (λ c. search needs) (λ c. search needs) loop-again (λ c. search needs) loop-again-2 returns)

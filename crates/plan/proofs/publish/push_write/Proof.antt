@@ -9,33 +9,15 @@ use Rattle.plan.proofs.publish.push_write.Tie as tie
 returns : tie.Need-returns
 returns c = λ p. rw (write-none _ _ _ (c .if1 .taken)) (adds-none _ _)
 
-cast-push : tie.Need-cast-push
-cast-push c = search needs
-
-push-requires : tie.Need-push-requires
-push-requires c κs = search needs
-
 returns-2 : tie.Need-returns-2
 returns-2 c =
     let a = c .before .before .before .before .before .before .args in
     λ p. rw (write-new (a .t) (a .limit) (a .w) (omega arith) (omega arith)) (adds-push (head-kept (a .w) p) (c .push .ensures))
 
-cast-push-2 : tie.Need-cast-push-2
-cast-push-2 c = search needs
-
-push-requires-2 : tie.Need-push-requires-2
-push-requires-2 c κs = search needs
-
 returns-3 : tie.Need-returns-3
 returns-3 c =
     let a = c .before .before .before .before .before .before .before .args in
     λ p. rw (write-mark (a .t) (a .limit) (a .w) (omega arith) (c .before .before .before .before .if2 .left)) (adds-push (xmax-kept (a .w) (a .t) p) (c .before .push2 .ensures))
-
-cast-push-3 : tie.Need-cast-push-3
-cast-push-3 c = search needs
-
-push-requires-3 : tie.Need-push-requires-3
-push-requires-3 c κs = search needs
 
 returns-4 : tie.Need-returns-4
 returns-4 c =
@@ -44,15 +26,5 @@ returns-4 c =
 
 pub push-write-spec : {M : Type 1} → statement M
 push-write-spec =
-    tie.close
-    (tie.spec
-    returns
-    cast-push
-    push-requires
-    returns-2
-    cast-push-2
-    push-requires-2
-    returns-3
-    cast-push-3
-    push-requires-3
-    returns-4)
+    tie.close (tie.spec returns (λ c. search needs) (λ c κs. search needs) returns-2 (λ c. search needs) (λ c κs. search needs) returns-3
+    (λ c. search needs) (λ c κs. search needs) returns-4)

@@ -19,9 +19,6 @@ Inv-loop codes from kind limit j₀ n k₀ left₀ i₀ j k left i =
 abbrev μ-loop : tie.MeasureT-loop
 μ-loop codes from kind limit j₀ n k₀ left₀ i₀ j k left i = i
 
-clipped-requires : tie.Need-clipped-requires Inv-loop μ-loop
-clipped-requires c κs = search needs
-
 loop-holds : tie.Need-loop-holds Inv-loop μ-loop
 loop-holds c =
     let a = c .before .before .args in
@@ -29,24 +26,6 @@ loop-holds c =
 
 returns : tie.Need-returns Inv-loop μ-loop
 returns c = λ b w. pushing-end (c .before .before .loop .inv .1 b w) (back-none _ _ _ _ (omega arith))
-
-sub-i : tie.Need-sub-i Inv-loop μ-loop
-sub-i c = search needs
-
-mul-c : tie.Need-mul-c Inv-loop μ-loop
-mul-c c = search needs
-
-shared-slice-read-c : tie.Need-shared-slice-read-c Inv-loop μ-loop
-shared-slice-read-c c = search needs
-
-sub-left : tie.Need-sub-left Inv-loop μ-loop
-sub-left c = search needs
-
-push-requires : tie.Need-push-requires Inv-loop μ-loop
-push-requires c κs = search needs
-
-loop-less : tie.Need-loop-less Inv-loop μ-loop
-loop-less c = search needs
 
 loop-again : tie.Need-loop-again Inv-loop μ-loop
 loop-again c =
@@ -57,18 +36,5 @@ returns-2 c = λ b w. pushing-end (c .before .loop .inv .1 b w) (back-end _ _ _ 
 
 pub push-back-spec : {M : Type 1} → statement M
 push-back-spec =
-    tie.close
-    (tie.spec
-    Inv-loop
-    μ-loop
-    clipped-requires
-    loop-holds
-    returns
-    sub-i
-    mul-c
-    shared-slice-read-c
-    sub-left
-    push-requires
-    loop-less
-    loop-again
-    returns-2)
+    tie.close (tie.spec Inv-loop μ-loop (λ c κs. search needs) loop-holds returns (λ c. search needs) (λ c. search needs) (λ c. search needs)
+    (λ c. search needs) (λ c κs. search needs) (λ c. search needs) loop-again returns-2)

@@ -25,24 +25,6 @@ loop-holds c = (omega arith, λ b w. pushing-start _ _ _)
 returns : tie.Need-returns Inv-loop μ-loop
 returns c = λ b w. pushing-end (c .before .before .loop .inv .1 b w) (listed-none _ _ _ _ (omega arith))
 
-mul-c : tie.Need-mul-c Inv-loop μ-loop
-mul-c c = search needs
-
-shared-slice-read-c : tie.Need-shared-slice-read-c Inv-loop μ-loop
-shared-slice-read-c c = search needs
-
-add-i : tie.Need-add-i Inv-loop μ-loop
-add-i c = search needs
-
-sub-left : tie.Need-sub-left Inv-loop μ-loop
-sub-left c = search needs
-
-push-requires : tie.Need-push-requires Inv-loop μ-loop
-push-requires c κs = search needs
-
-loop-less : tie.Need-loop-less Inv-loop μ-loop
-loop-less c = search needs
-
 loop-again : tie.Need-loop-again Inv-loop μ-loop
 loop-again c = (omega arith, λ b w. push-listed _ _ _ _ (c .before .before .before .before .before .loop .inv .1 b w) (omega arith) (omega arith) b w (c .push .ensures))
 
@@ -51,5 +33,5 @@ returns-2 c = λ b w. pushing-end (c .before .loop .inv .1 b w) (listed-end _ _ 
 
 pub push-listed-spec : {M : Type 1} → statement M
 push-listed-spec =
-    tie.close
-    (tie.spec Inv-loop μ-loop loop-holds returns mul-c shared-slice-read-c add-i sub-left push-requires loop-less loop-again returns-2)
+    tie.close (tie.spec Inv-loop μ-loop loop-holds returns (λ c. search needs) (λ c. search needs) (λ c. search needs) (λ c. search needs)
+    (λ c κs. search needs) (λ c. search needs) loop-again returns-2)

@@ -23,27 +23,9 @@ abbrev μ-loop : tie.MeasureT-loop
 loop-holds : tie.Need-loop-holds Inv-loop μ-loop
 loop-holds c = (omega arith, λ a b w. pushing-start _ _ _)
 
-add-i : tie.Need-add-i Inv-loop μ-loop
-add-i c = search needs
-
-shared-slice-read-if2 : tie.Need-shared-slice-read-if2 Inv-loop μ-loop
-shared-slice-read-if2 c = search needs
-
-sub-left : tie.Need-sub-left Inv-loop μ-loop
-sub-left c = search needs
-
-push-requires : tie.Need-push-requires Inv-loop μ-loop
-push-requires c κs = search needs
-
-loop-less : tie.Need-loop-less Inv-loop μ-loop
-loop-less c = search needs
-
 loop-again : tie.Need-loop-again Inv-loop μ-loop
 loop-again c =
     (omega arith, λ a b w. push-mark _ _ _ _ _ (c .before .before .before .before .before .before .loop .inv .1 a b w) (omega arith) (omega arith) (c .before .before .if2 .taken) a b w (c .push .ensures))
-
-loop-less-2 : tie.Need-loop-less-2 Inv-loop μ-loop
-loop-less-2 c = search needs
 
 loop-again-2 : tie.Need-loop-again-2 Inv-loop μ-loop
 loop-again-2 c = (omega arith, λ a b w. pass-mark _ _ _ _ _ (c .before .before .before .before .loop .inv .1 a b w) (omega arith) (c .if2 .left))
@@ -56,5 +38,5 @@ returns-2 c = λ a b w. pushing-end (c .before .loop .inv .1 a b w) (marked-end 
 
 pub push-marked-spec : {M : Type 1} → statement M
 push-marked-spec =
-    tie.close
-    (tie.spec Inv-loop μ-loop loop-holds returns add-i shared-slice-read-if2 sub-left push-requires loop-less loop-again loop-less-2 loop-again-2 returns-2)
+    tie.close (tie.spec Inv-loop μ-loop loop-holds returns (λ c. search needs) (λ c. search needs) (λ c. search needs) (λ c κs. search needs)
+    (λ c. search needs) loop-again (λ c. search needs) loop-again-2 returns-2)

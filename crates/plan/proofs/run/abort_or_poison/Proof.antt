@@ -5,18 +5,11 @@ use borrow.Author.Needs.{needs}
 use Rattle.plan.proofs.run.abort_or_poison.Statement.{statement}
 use Rattle.plan.proofs.run.abort_or_poison.Tie as tie
 
-poison-unless-requires : tie.Need-poison-unless-requires
-poison-unless-requires c κs = search needs
-
 returns : tie.Need-returns
 returns c = λ S x logged plan e t f long. aborted-not S x logged plan _ (sym f ∙ c .before .before .if1 .taken) (c .poison-unless .ensures)
-
-push-abort-requires : tie.Need-push-abort-requires
-push-abort-requires c κs = search needs
 
 returns-2 : tie.Need-returns-2
 returns-2 c = λ S x logged plan e t f long. aborted-whole S x logged plan _ (sym f ∙ c .before .before .if1 .left) (rw t at (c .push-abort .ensures S e long))
 
 pub abort-or-poison-spec : {M : Type 1} → statement M
-abort-or-poison-spec =
-    tie.close (tie.spec poison-unless-requires returns push-abort-requires returns-2)
+abort-or-poison-spec = tie.close (tie.spec (λ c κs. search needs) returns (λ c κs. search needs) returns-2)

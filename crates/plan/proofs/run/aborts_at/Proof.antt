@@ -8,9 +8,6 @@ use borrow.Author.Needs.{needs}
 use Rattle.plan.proofs.run.aborts_at.Statement.{statement}
 use Rattle.plan.proofs.run.aborts_at.Tie as tie
 
-array-read-result : tie.Need-array-read-result
-array-read-result c = search needs
-
 returns : tie.Need-returns
 unfolding aborters
 returns c = search needs
@@ -20,4 +17,4 @@ unfolding aborters
 returns-2 c = sym (List·getD-eq-default aborters false {n = c .before .args .gate} (omega arith))
 
 pub aborts-at-spec : {M : Type 1} → statement M
-aborts-at-spec = tie.close (tie.spec array-read-result returns returns-2)
+aborts-at-spec = tie.close (tie.spec (λ c. search needs) returns returns-2)

@@ -8,11 +8,8 @@ use Rattle.plan.proofs.run.drop_txid.Tie as tie
 returns : tie.Need-returns
 returns c = rw (lt-ltb _ _ (c .if1 .taken)) (adds-none _ _)
 
-push-drop-requires : tie.Need-push-drop-requires
-push-drop-requires c κs = search needs
-
 returns-2 : tie.Need-returns-2
 returns-2 c = rw (le-ltb _ _ (c .before .before .if1 .left)) (c .push-drop .ensures)
 
 pub drop-txid-spec : {M : Type 1} → statement M
-drop-txid-spec = tie.close (tie.spec returns push-drop-requires returns-2)
+drop-txid-spec = tie.close (tie.spec returns (λ c κs. search needs) returns-2)

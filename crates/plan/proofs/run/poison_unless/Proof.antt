@@ -7,11 +7,8 @@ use Rattle.plan.proofs.run.poison_unless.Tie as tie
 returns : tie.Need-returns
 returns c = rw (c .if1 .taken) (adds-none _ _)
 
-push-poison-requires : tie.Need-push-poison-requires
-push-poison-requires c κs = search needs
-
 returns-2 : tie.Need-returns-2
 returns-2 c = rw (c .before .before .if1 .left) (c .push-poison .ensures)
 
 pub poison-unless-spec : {M : Type 1} → statement M
-poison-unless-spec = tie.close (tie.spec returns push-poison-requires returns-2)
+poison-unless-spec = tie.close (tie.spec returns (λ c κs. search needs) returns-2)

@@ -7,12 +7,6 @@ use borrow.Author.Needs.{needs}
 use Rattle.plan.proofs.run.push_dies.Statement.{statement}
 use Rattle.plan.proofs.run.push_dies.Tie as tie
 
-aborts-at-requires : tie.Need-aborts-at-requires
-aborts-at-requires c κs = search needs
-
-abort-or-poison-requires : tie.Need-abort-or-poison-requires
-abort-or-poison-requires c κs = search needs
-
 returns : tie.Need-returns
 returns c = λ S x logged plan h. dies-here h _ (sym (c .before .before .before .before .before .aborts-at .ensures) ∙ c .before .before .before .before .if1 .taken) (c .abort-or-poison .ensures S x logged plan (own-is h) (txid-is h) (abort-is S x logged plan (h .strikes)) (h .long))
 
@@ -20,4 +14,4 @@ returns-2 : tie.Need-returns-2
 returns-2 c = λ S x logged plan h. rw (dies-not S x logged plan _ (sym (c .before .aborts-at .ensures) ∙ c .if1 .left)) (adds-none _ _)
 
 pub push-dies-spec : {M : Type 1} → statement M
-push-dies-spec = tie.close (tie.spec aborts-at-requires abort-or-poison-requires returns returns-2)
+push-dies-spec = tie.close (tie.spec (λ c κs. search needs) (λ c κs. search needs) returns returns-2)

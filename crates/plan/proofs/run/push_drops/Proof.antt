@@ -7,12 +7,6 @@ use borrow.Author.Needs.{needs}
 use Rattle.plan.proofs.run.push_drops.Statement.{statement}
 use Rattle.plan.proofs.run.push_drops.Tie as tie
 
-either-requires : tie.Need-either-requires
-either-requires c κs = search needs
-
-abort-or-poison-requires : tie.Need-abort-or-poison-requires
-abort-or-poison-requires c κs = search needs
-
 returns : tie.Need-returns
 returns c = λ S x logged plan h. drops-call h _ (c .before .before .before .before .either .ensures) (c .before .before .before .before .before .if1 .taken) (c .abort-or-poison .ensures S x logged plan (own-is h) (txid-is h) (abort-is S x logged plan (h .strikes)) (h .long))
 
@@ -31,9 +25,6 @@ returns-4 c =
     let g = c .before .before .before .before .args .gate in
     λ S x logged plan h. rw (drops-failed h g (omega arith) (omega arith) (c .if4 .taken)) (adds-none _ _)
 
-push-drop-requires : tie.Need-push-drop-requires
-push-drop-requires c κs = search needs
-
 returns-5 : tie.Need-returns-5
 returns-5 c =
     let g = c .before .before .before .before .before .before .args .gate in
@@ -41,13 +32,4 @@ returns-5 c =
 
 pub push-drops-spec : {M : Type 1} → statement M
 push-drops-spec =
-    tie.close
-    (tie.spec
-    either-requires
-    abort-or-poison-requires
-    returns
-    returns-2
-    returns-3
-    returns-4
-    push-drop-requires
-    returns-5)
+    tie.close (tie.spec (λ c κs. search needs) (λ c κs. search needs) returns returns-2 returns-3 returns-4 (λ c κs. search needs) returns-5)

@@ -4,40 +4,11 @@ use borrow.Author.Needs.{needs}
 use Rattle.plan.proofs.run.push_passed.Statement.{statement}
 use Rattle.plan.proofs.run.push_passed.Tie as tie
 
-limit-at-requires : tie.Need-limit-at-requires
-limit-at-requires c κs = search needs
-
-push-publication-requires : tie.Need-push-publication-requires
-push-publication-requires c κs = search needs
-
-limit-at-requires-2 : tie.Need-limit-at-requires-2
-limit-at-requires-2 c κs = search needs
-
-push-recycling-requires : tie.Need-push-recycling-requires
-push-recycling-requires c κs = search needs
-
-drop-txid-requires : tie.Need-drop-txid-requires
-drop-txid-requires c κs = search needs
-
-limit-at-requires-3 : tie.Need-limit-at-requires-3
-limit-at-requires-3 c κs = search needs
-
-push-stamping-requires : tie.Need-push-stamping-requires
-push-stamping-requires c κs = search needs
-
 returns : tie.Need-returns
 returns c =
     λ S x logged plan h. passed-put h _ (c .before .before .before .before .before .before .before .before .before .before .before .before .before .before .before .limit-at .ensures) (c .before .before .before .before .before .before .before .before .before .before .before .before .push-publication .ensures S x (writes-are h) (txid-is h) (h .fits)) (c .before .before .before .before .before .before .before .before .before .before .before .limit-at2 .ensures) (c .before .before .before .before .before .before .before .push-recycling .ensures S x (recycled-is h) (h .long)) (c .before .before .before .before .before .drop-txid .ensures) (c .before .before .before .before .limit-at3 .ensures) (c .push-stamping .ensures S x (changed-is h) (txid-is h))
 
 pub push-passed-spec : {M : Type 1} → statement M
 push-passed-spec =
-    tie.close
-    (tie.spec
-    limit-at-requires
-    push-publication-requires
-    limit-at-requires-2
-    push-recycling-requires
-    drop-txid-requires
-    limit-at-requires-3
-    push-stamping-requires
-    returns)
+    tie.close (tie.spec (λ c κs. search needs) (λ c κs. search needs) (λ c κs. search needs) (λ c κs. search needs) (λ c κs. search needs)
+    (λ c κs. search needs) (λ c κs. search needs) returns)

@@ -5,24 +5,6 @@ use borrow.Author.Needs.{needs}
 use Rattle.plan.proofs.run.push_poisons.Statement.{statement}
 use Rattle.plan.proofs.run.push_poisons.Tie as tie
 
-poison-unless-requires : tie.Need-poison-unless-requires
-poison-unless-requires c κs = search needs
-
-push-poison-requires : tie.Need-push-poison-requires
-push-poison-requires c κs = search needs
-
-push-poison-requires-2 : tie.Need-push-poison-requires-2
-push-poison-requires-2 c κs = search needs
-
-push-doom-requires : tie.Need-push-doom-requires
-push-doom-requires c κs = search needs
-
-push-doom-requires-2 : tie.Need-push-doom-requires-2
-push-doom-requires-2 c κs = search needs
-
-push-doom-requires-3 : tie.Need-push-doom-requires-3
-push-doom-requires-3 c κs = search needs
-
 returns : tie.Need-returns
 returns c = poisons-called (c .before .before .before .args .bad) (c .before .before .before .args .t) _ (c .before .before .match .keys1) (c .poison-unless .ensures)
 
@@ -49,18 +31,5 @@ returns-7 c =
 
 pub push-poisons-spec : {M : Type 1} → statement M
 push-poisons-spec =
-    tie.close
-    (tie.spec
-    poison-unless-requires
-    push-poison-requires
-    push-poison-requires-2
-    push-doom-requires
-    push-doom-requires-2
-    push-doom-requires-3
-    returns
-    returns-2
-    returns-3
-    returns-4
-    returns-5
-    returns-6
-    returns-7)
+    tie.close (tie.spec (λ c κs. search needs) (λ c κs. search needs) (λ c κs. search needs) (λ c κs. search needs) (λ c κs. search needs)
+    (λ c κs. search needs) returns returns-2 returns-3 returns-4 returns-5 returns-6 returns-7)

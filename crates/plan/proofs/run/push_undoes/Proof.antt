@@ -6,14 +6,8 @@ use borrow.Author.Needs.{needs}
 use Rattle.plan.proofs.run.push_undoes.Statement.{statement}
 use Rattle.plan.proofs.run.push_undoes.Tie as tie
 
-roll-back-requires : tie.Need-roll-back-requires
-roll-back-requires c κs = search needs
-
 returns : tie.Need-returns
 returns c = λ S x logged plan h. undoes-insert h _ (c .before .before .if1 .taken) (c .roll-back .ensures S x logged plan (into-is h) (h .strikes) (h .fits))
-
-roll-back-requires-2 : tie.Need-roll-back-requires-2
-roll-back-requires-2 c κs = search needs
 
 returns-2 : tie.Need-returns-2
 returns-2 c = λ S x logged plan h. undoes-call h _ (c .before .before .if2 .taken) (c .roll-back2 .ensures S x logged plan (into-is h) (h .strikes) (h .fits))
@@ -22,5 +16,4 @@ returns-3 : tie.Need-returns-3
 returns-3 c = λ S x logged plan h. rw (undoes-none S x logged plan _ (c .before .if1 .left) (c .if2 .left)) (adds-none _ _)
 
 pub push-undoes-spec : {M : Type 1} → statement M
-push-undoes-spec =
-    tie.close (tie.spec roll-back-requires returns roll-back-requires-2 returns-2 returns-3)
+push-undoes-spec = tie.close (tie.spec (λ c κs. search needs) returns (λ c κs. search needs) returns-2 returns-3)

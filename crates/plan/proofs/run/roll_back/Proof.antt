@@ -4,27 +4,11 @@ use borrow.Author.Needs.{needs}
 use Rattle.plan.proofs.run.roll_back.Statement.{statement}
 use Rattle.plan.proofs.run.roll_back.Tie as tie
 
-push-rollback-requires : tie.Need-push-rollback-requires
-push-rollback-requires c κs = search needs
-
-poison-unless-requires : tie.Need-poison-unless-requires
-poison-unless-requires c κs = search needs
-
 returns : tie.Need-returns
 returns c = λ S x logged plan e q ok. rolled-part S x logged plan _ _ q ok (c .before .before .before .before .before .args .made) (c .before .before .before .before .if1 .taken) (c .before .before .push-rollback .ensures S x e ok) (c .poison-unless .ensures)
-
-push-rollback-requires-2 : tie.Need-push-rollback-requires-2
-push-rollback-requires-2 c κs = search needs
 
 returns-2 : tie.Need-returns-2
 returns-2 c = λ S x logged plan e q ok. rolled-whole S x logged plan _ _ q ok (c .before .before .before .args .made) (c .before .before .if1 .left) (c .push-rollback2 .ensures S x e ok)
 
 pub roll-back-spec : {M : Type 1} → statement M
-roll-back-spec =
-    tie.close
-    (tie.spec
-    push-rollback-requires
-    poison-unless-requires
-    returns
-    push-rollback-requires-2
-    returns-2)
+roll-back-spec = tie.close (tie.spec (λ c κs. search needs) (λ c κs. search needs) returns (λ c κs. search needs) returns-2)

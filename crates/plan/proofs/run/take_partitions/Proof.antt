@@ -8,11 +8,8 @@ use Rattle.plan.proofs.run.take_partitions.Tie as tie
 returns : tie.Need-returns
 returns c = λ x e. rw (lt-ltb _ _ (c .if1 .taken)) (adds-none _ _)
 
-push-partition-guards-requires : tie.Need-push-partition-guards-requires
-push-partition-guards-requires c κs = search needs
-
 returns-2 : tie.Need-returns-2
 returns-2 c = λ x e. rw (le-ltb _ _ (c .before .before .if1 .left)) (c .push-partition-guards .ensures x e)
 
 pub take-partitions-spec : {M : Type 1} → statement M
-take-partitions-spec = tie.close (tie.spec returns push-partition-guards-requires returns-2)
+take-partitions-spec = tie.close (tie.spec returns (λ c κs. search needs) returns-2)

@@ -8,11 +8,8 @@ use Rattle.plan.proofs.run.take_stripes.Tie as tie
 returns : tie.Need-returns
 returns c = λ S x e ok. rw (lt-ltb _ _ (c .if1 .taken)) (adds-none _ _)
 
-push-index-guards-requires : tie.Need-push-index-guards-requires
-push-index-guards-requires c κs = search needs
-
 returns-2 : tie.Need-returns-2
 returns-2 c = λ S x e ok. rw (le-ltb _ _ (c .before .before .if1 .left)) (c .push-index-guards .ensures S x e ok)
 
 pub take-stripes-spec : {M : Type 1} → statement M
-take-stripes-spec = tie.close (tie.spec returns push-index-guards-requires returns-2)
+take-stripes-spec = tie.close (tie.spec returns (λ c κs. search needs) returns-2)

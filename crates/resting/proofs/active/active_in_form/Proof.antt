@@ -22,18 +22,6 @@ loop-holds : tie.Need-loop-holds Inv-loop μ-loop
 unfolding activeLeft
 loop-holds c = (omega arith, sym (active-from _ _))
 
-mul-t : tie.Need-mul-t Inv-loop μ-loop
-mul-t c = search needs
-
-element-copy-out-t : tie.Need-element-copy-out-t Inv-loop μ-loop
-element-copy-out-t c = search needs
-
-add-i : tie.Need-add-i Inv-loop μ-loop
-add-i c = search needs
-
-zero-from-requires : tie.Need-zero-from-requires Inv-loop μ-loop
-zero-from-requires c κs = search needs
-
 returns : tie.Need-returns Inv-loop μ-loop
 returns c = c .zero-from .ensures ∙ active-stop _ _ _ _ _ _ (c .before .before .before .before .loop .inv .1) (omega arith) (c .before .if1 .taken)
 
@@ -43,9 +31,6 @@ returns-2 c = ⊎-elim
     (λ w. active-high _ _ _ _ _ _ (c .before .before .before .before .loop .inv .1) (omega arith) (c .before .if1 .left) (w .0 .left) (leb-true _ _ (w .1 .taken)))
     (c .if2 .came)
 
-loop-less : tie.Need-loop-less Inv-loop μ-loop
-loop-less c = search needs
-
 loop-again : tie.Need-loop-again Inv-loop μ-loop
 loop-again c = (omega arith, active-pass _ _ _ _ _ _ (c .before .before .before .before .before .loop .inv .1) (omega arith) (c .before .before .if1 .left) (c .before .if2 .left) (leb-false _ _ (c .if3 .left)))
 
@@ -54,17 +39,5 @@ returns-3 c = active-end _ _ _ _ _ _ (c .before .loop .inv .1) (omega arith)
 
 pub active-in-form-spec : {M : Type 1} → statement M
 active-in-form-spec =
-    tie.close
-    (tie.spec
-    Inv-loop
-    μ-loop
-    loop-holds
-    mul-t
-    element-copy-out-t
-    add-i
-    zero-from-requires
-    returns
-    returns-2
-    loop-less
-    loop-again
-    returns-3)
+    tie.close (tie.spec Inv-loop μ-loop loop-holds (λ c. search needs) (λ c. search needs) (λ c. search needs) (λ c κs. search needs) returns
+    returns-2 (λ c. search needs) loop-again returns-3)

@@ -7,11 +7,8 @@ use Rattle.view.specs.Lent.{array-same}
 use Rattle.resting.proofs.active.is_finished.Statement.{statement}
 use Rattle.resting.proofs.active.is_finished.Tie as tie
 
-is-finished-requires : tie.Need-is-finished-requires
-is-finished-requires c κs = search needs
-
 returns : tie.Need-returns
 returns c = c .is-finished .ensures ∙ ap (λ l. finished l (c .before .before .args .doomed) (c .before .before .args .t)) (sym (array-same activeLimit 0 _ (c .before .is-finished-arg .given .0)))
 
 pub is-finished-spec : {M : Type 1} → statement M
-is-finished-spec = tie.close (tie.spec is-finished-requires returns)
+is-finished-spec = tie.close (tie.spec (λ c κs. search needs) returns)

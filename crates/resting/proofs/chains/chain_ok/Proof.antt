@@ -10,23 +10,8 @@ use Rattle.resting.proofs.chains.chain_ok.Tie as tie
 returns : tie.Need-returns
 returns c = chain-none _ _ _ _ _ _ (c .if1 .taken)
 
-txid-at-requires : tie.Need-txid-at-requires
-txid-at-requires c κs = search needs
-
-txid-at-requires-2 : tie.Need-txid-at-requires-2
-txid-at-requires-2 c κs = search needs
-
-is-finished-requires : tie.Need-is-finished-requires
-is-finished-requires c κs = search needs
-
-is-finished-requires-2 : tie.Need-is-finished-requires-2
-is-finished-requires-2 c κs = search needs
-
 returns-2 : tie.Need-returns-2
 returns-2 c = first-over _ _ _ _ _ _ _ _ (c .before .before .before .before .before .before .before .if1 .left) (c .before .before .before .before .before .before .txid-at .ensures) (c .before .before .before .before .before .txid-at2 .ensures) (sym (c .before .before .before .before .is-finished .ensures) ∙ c .before .before .before .if2 .taken) (c .before .before .if3 .taken) (sym (c .before .is-finished2 .ensures) ∙ c .if4 .taken)
-
-tail-ok-requires : tie.Need-tail-ok-requires
-tail-ok-requires c κs = search needs
 
 returns-3 : tie.Need-returns-3
 returns-3 c = let finished = sym (c .before .before .before .is-finished .ensures) ∙ c .before .before .if2 .taken in
@@ -39,20 +24,11 @@ returns-3 c = let finished = sym (c .before .before .before .is-finished .ensure
 returns-4 : tie.Need-returns-4
 returns-4 c = ahead-over _ _ _ _ _ _ _ _ (c .before .before .before .before .before .if1 .left) (c .before .before .before .before .txid-at .ensures) (c .before .before .before .txid-at2 .ensures) (sym (c .before .before .is-finished .ensures) ∙ c .before .if2 .left) (c .if5 .taken)
 
-word-at-requires : tie.Need-word-at-requires
-word-at-requires c κs = search needs
-
 returns-5 : tie.Need-returns-5
 returns-5 c = ahead-alone _ _ _ _ _ _ _ _ (c .before .before .before .before .before .before .before .if1 .left) (c .before .before .before .before .before .before .txid-at .ensures) (c .before .before .before .before .before .txid-at2 .ensures) (sym (c .before .before .before .before .is-finished .ensures) ∙ c .before .before .before .if2 .left) (c .before .before .if5 .left) _ (c .before .word-at .ensures) (c .if6 .taken)
 
-txid-at-requires-3 : tie.Need-txid-at-requires-3
-txid-at-requires-3 c κs = search needs
-
 returns-6 : tie.Need-returns-6
 returns-6 c = behind-other _ _ _ _ _ _ _ _ (c .before .before .before .before .before .before .before .before .before .before .if1 .left) (c .before .before .before .before .before .before .before .before .before .txid-at .ensures) (c .before .before .before .before .before .before .before .before .txid-at2 .ensures) (sym (c .before .before .before .before .before .before .before .is-finished .ensures) ∙ c .before .before .before .before .before .before .if2 .left) (c .before .before .before .before .before .if5 .left) _ (c .before .before .before .before .word-at .ensures) (c .before .before .before .if6 .left) _ (c .before .before .txid-at3 .ensures) (c .before .if7 .taken) (eqb-false _ _ (not-true _ (c .if8 .taken)))
-
-tail-ok-requires-2 : tie.Need-tail-ok-requires-2
-tail-ok-requires-2 c κs = search needs
 
 returns-7 : tie.Need-returns-7
 returns-7 c = c .tail-ok2 .ensures ∙
@@ -63,20 +39,5 @@ returns-7 c = c .tail-ok2 .ensures ∙
 
 pub chain-ok-spec : {M : Type 1} → statement M
 chain-ok-spec =
-    tie.close
-    (tie.spec
-    returns
-    txid-at-requires
-    txid-at-requires-2
-    is-finished-requires
-    is-finished-requires-2
-    returns-2
-    tail-ok-requires
-    returns-3
-    returns-4
-    word-at-requires
-    returns-5
-    txid-at-requires-3
-    returns-6
-    tail-ok-requires-2
-    returns-7)
+    tie.close (tie.spec returns (λ c κs. search needs) (λ c κs. search needs) (λ c κs. search needs) (λ c κs. search needs) returns-2
+    (λ c κs. search needs) returns-3 returns-4 (λ c κs. search needs) returns-5 (λ c κs. search needs) returns-6 (λ c κs. search needs) returns-7)

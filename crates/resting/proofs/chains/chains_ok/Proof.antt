@@ -22,23 +22,8 @@ loop-holds : tie.Need-loop-holds Inv-loop μ-loop
 unfolding allLeft
 loop-holds c = search needs
 
-mul-chain-ok : tie.Need-mul-chain-ok Inv-loop μ-loop
-mul-chain-ok c = search needs
-
-element-copy-out-chain-ok : tie.Need-element-copy-out-chain-ok Inv-loop μ-loop
-element-copy-out-chain-ok c = search needs
-
-chain-ok-requires : tie.Need-chain-ok-requires Inv-loop μ-loop
-chain-ok-requires c κs = search needs
-
 returns : tie.Need-returns Inv-loop μ-loop
 returns c = all-fail _ _ _ _ _ _ (c .before .before .before .before .loop .inv .1) (omega arith) (sym (c .before .chain-ok .ensures) ∙ not-true _ (c .if1 .taken))
-
-add-r : tie.Need-add-r Inv-loop μ-loop
-add-r c = search needs
-
-loop-less : tie.Need-loop-less Inv-loop μ-loop
-loop-less c = search needs
 
 loop-again : tie.Need-loop-again Inv-loop μ-loop
 loop-again c = (omega arith, all-pass _ _ _ _ _ _ (c .before .before .before .before .loop .inv .1) (omega arith) (sym (c .before .chain-ok .ensures) ∙ not-false _ (c .if1 .left)))
@@ -48,16 +33,5 @@ returns-2 c = all-end _ _ _ _ _ _ (c .before .loop .inv .1) (omega arith)
 
 pub chains-ok-spec : {M : Type 1} → statement M
 chains-ok-spec =
-    tie.close
-    (tie.spec
-    Inv-loop
-    μ-loop
-    loop-holds
-    mul-chain-ok
-    element-copy-out-chain-ok
-    chain-ok-requires
-    returns
-    add-r
-    loop-less
-    loop-again
-    returns-2)
+    tie.close (tie.spec Inv-loop μ-loop loop-holds (λ c. search needs) (λ c. search needs) (λ c κs. search needs) returns (λ c. search needs)
+    (λ c. search needs) loop-again returns-2)

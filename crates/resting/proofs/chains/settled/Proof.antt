@@ -5,9 +5,6 @@ use Rattle.resting.specs.Used.{settledBy}
 use Rattle.resting.proofs.chains.settled.Statement.{statement}
 use Rattle.resting.proofs.chains.settled.Tie as tie
 
-is-finished-requires : tie.Need-is-finished-requires
-is-finished-requires c κs = search needs
-
 returns : tie.Need-returns
 unfolding settledBy
 returns c = rw (← c .before .is-finished .ensures, c .if1 .taken)
@@ -17,4 +14,4 @@ unfolding settledBy
 returns-2 c = rw (← c .before .is-finished .ensures, c .if1 .left)
 
 pub settled-spec : {M : Type 1} → statement M
-settled-spec = tie.close (tie.spec is-finished-requires returns returns-2)
+settled-spec = tie.close (tie.spec (λ c κs. search needs) returns returns-2)

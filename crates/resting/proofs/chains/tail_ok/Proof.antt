@@ -14,32 +14,11 @@ Inv-loop xmin xmax next active doomed over left p v₀ n₀ q₀ v n q = tailAt 
 abbrev μ-loop : tie.MeasureT-loop
 μ-loop xmin xmax next active doomed over left p v₀ n₀ q₀ v n q = n
 
-loop-holds : tie.Need-loop-holds Inv-loop μ-loop
-loop-holds c = search needs
-
-txid-at-requires : tie.Need-txid-at-requires Inv-loop μ-loop
-txid-at-requires c κs = search needs
-
-txid-at-requires-2 : tie.Need-txid-at-requires-2 Inv-loop μ-loop
-txid-at-requires-2 c κs = search needs
-
 returns : tie.Need-returns Inv-loop μ-loop
 returns c = tail-over _ _ _ _ _ _ _ _ _ (c .before .before .before .before .before .loop .inv) (omega arith) (eqb-false _ _ (not-true _ (c .before .before .before .if1 .taken))) _ (c .before .txid-at2 .ensures) (c .if2 .taken)
 
-is-finished-requires : tie.Need-is-finished-requires Inv-loop μ-loop
-is-finished-requires c κs = search needs
-
 returns-2 : tie.Need-returns-2 Inv-loop μ-loop
 returns-2 c = tail-unfinished _ _ _ _ _ _ _ _ _ (c .before .before .before .before .before .before .before .loop .inv) (omega arith) (eqb-false _ _ (not-true _ (c .before .before .before .before .before .if1 .taken))) _ (c .before .before .before .before .txid-at .ensures) (sym (c .before .is-finished .ensures) ∙ not-true _ (c .if3 .taken))
-
-sub-n : tie.Need-sub-n Inv-loop μ-loop
-sub-n c = search needs
-
-word-at-requires : tie.Need-word-at-requires Inv-loop μ-loop
-word-at-requires c κs = search needs
-
-loop-less : tie.Need-loop-less Inv-loop μ-loop
-loop-less c = search needs
 
 loop-again : tie.Need-loop-again Inv-loop μ-loop
 loop-again c = tail-step _ _ _ _ _ _ _ _ _
@@ -63,19 +42,5 @@ returns-4 c = tail-out _ _ _ _ _ _ _ _ _ (c .before .loop .inv) (omega arith)
 
 pub tail-ok-spec : {M : Type 1} → statement M
 tail-ok-spec =
-    tie.close
-    (tie.spec
-    Inv-loop
-    μ-loop
-    loop-holds
-    txid-at-requires
-    txid-at-requires-2
-    returns
-    is-finished-requires
-    returns-2
-    sub-n
-    word-at-requires
-    loop-less
-    loop-again
-    returns-3
-    returns-4)
+    tie.close (tie.spec Inv-loop μ-loop (λ c. search needs) (λ c κs. search needs) (λ c κs. search needs) returns (λ c κs. search needs) returns-2
+    (λ c. search needs) (λ c κs. search needs) (λ c. search needs) loop-again returns-3 returns-4)

@@ -7,11 +7,8 @@ use Rattle.view.specs.Lent.{array-same}
 use Rattle.resting.proofs.guards.no_partition_held.Statement.{statement}
 use Rattle.resting.proofs.guards.no_partition_held.Tie as tie
 
-zeros-from-requires : tie.Need-zeros-from-requires
-zeros-from-requires c κs = search needs
-
 returns : tie.Need-returns
 returns c = c .zeros-from .ensures ∙ ap allZero (sym (array-same partitions 0 _ (c .before .zeros-from-arg .given .0)))
 
 pub no-partition-held-spec : {M : Type 1} → statement M
-no-partition-held-spec = tie.close (tie.spec zeros-from-requires returns)
+no-partition-held-spec = tie.close (tie.spec (λ c κs. search needs) returns)

@@ -26,23 +26,8 @@ loop-holds c = search needs
 returns : tie.Need-returns Inv-loop μ-loop
 returns c = first-out _ _ _ _ _ _ _ (c .before .before .loop .inv .1) (c .if1 .taken)
 
-mul-told-by-head : tie.Need-mul-told-by-head Inv-loop μ-loop
-mul-told-by-head c = search needs
-
-element-copy-out-told-by-head : tie.Need-element-copy-out-told-by-head Inv-loop μ-loop
-element-copy-out-told-by-head c = search needs
-
-told-by-head-requires : tie.Need-told-by-head-requires Inv-loop μ-loop
-told-by-head-requires c κs = search needs
-
 returns-2 : tie.Need-returns-2 Inv-loop μ-loop
 returns-2 c = first-fail _ _ _ _ _ _ _ (c .before .before .before .before .before .loop .inv .1) (omega arith) (omega arith) (sym (c .before .told-by-head .ensures) ∙ not-true _ (c .if2 .taken))
-
-add-i : tie.Need-add-i Inv-loop μ-loop
-add-i c = search needs
-
-loop-less : tie.Need-loop-less Inv-loop μ-loop
-loop-less c = search needs
 
 loop-again : tie.Need-loop-again Inv-loop μ-loop
 loop-again c = (omega arith, first-pass _ _ _ _ _ _ _ (c .before .before .before .before .before .loop .inv .1) (omega arith) (omega arith) (sym (c .before .told-by-head .ensures) ∙ not-false _ (c .if2 .left)))
@@ -52,17 +37,5 @@ returns-3 c = first-none _ _ _ _ _ _ _ (c .before .loop .inv .1) (omega arith)
 
 pub each-told-spec : {M : Type 1} → statement M
 each-told-spec =
-    tie.close
-    (tie.spec
-    Inv-loop
-    μ-loop
-    loop-holds
-    returns
-    mul-told-by-head
-    element-copy-out-told-by-head
-    told-by-head-requires
-    returns-2
-    add-i
-    loop-less
-    loop-again
-    returns-3)
+    tie.close (tie.spec Inv-loop μ-loop loop-holds returns (λ c. search needs) (λ c. search needs) (λ c κs. search needs) returns-2
+    (λ c. search needs) (λ c. search needs) loop-again returns-3)

@@ -23,26 +23,11 @@ loop-holds : tie.Need-loop-holds Inv-loop μ-loop
 unfolding climbLeft
 loop-holds c = search needs
 
-mul-c : tie.Need-mul-c Inv-loop μ-loop
-mul-c c = search needs
-
-element-copy-out-c : tie.Need-element-copy-out-c Inv-loop μ-loop
-element-copy-out-c c = search needs
-
-add-i : tie.Need-add-i Inv-loop μ-loop
-add-i c = search needs
-
 returns : tie.Need-returns Inv-loop μ-loop
 returns c = climb-low _ _ _ _ _ _ _ _ (c .before .before .before .loop .inv .1) (omega arith) (omega arith) (c .if1 .taken)
 
 returns-2 : tie.Need-returns-2 Inv-loop μ-loop
 returns-2 c = climb-fails _ _ _ _ _ _ _ _ (c .before .before .before .before .loop .inv .1) (omega arith) (omega arith) (c .before .if1 .left) (le-ltb _ _ (c .if2 .taken))
-
-add-least : tie.Need-add-least Inv-loop μ-loop
-add-least c = search needs
-
-loop-less : tie.Need-loop-less Inv-loop μ-loop
-loop-less c = search needs
 
 loop-again : tie.Need-loop-again Inv-loop μ-loop
 loop-again c = (omega arith, climb-pass _ _ _ _ _ _ _ _ (c .before .before .before .before .loop .inv .1) (omega arith) (omega arith) _ (add-one _) (c .before .if1 .left) (lt-ltb _ _ (c .if2 .left)))
@@ -52,17 +37,5 @@ returns-3 c = climb-end _ _ _ _ _ _ _ _ (c .before .loop .inv .1) (omega arith)
 
 pub postings-rise-spec : {M : Type 1} → statement M
 postings-rise-spec =
-    tie.close
-    (tie.spec
-    Inv-loop
-    μ-loop
-    loop-holds
-    mul-c
-    element-copy-out-c
-    add-i
-    returns
-    returns-2
-    add-least
-    loop-less
-    loop-again
-    returns-3)
+    tie.close (tie.spec Inv-loop μ-loop loop-holds (λ c. search needs) (λ c. search needs) (λ c. search needs) returns returns-2 (λ c. search needs)
+    (λ c. search needs) loop-again returns-3)

@@ -27,24 +27,6 @@ loop-holds : tie.Need-loop-holds Inv-loop μ-loop
 unfolding countLeft
 loop-holds c = (omega arith, omega arith, omega arith)
 
-mul-flag-at : tie.Need-mul-flag-at Inv-loop μ-loop
-mul-flag-at c = search needs
-
-element-copy-out-flag-at : tie.Need-element-copy-out-flag-at Inv-loop μ-loop
-element-copy-out-flag-at c = search needs
-
-flag-at-requires : tie.Need-flag-at-requires Inv-loop μ-loop
-flag-at-requires c κs = search needs
-
-add-n : tie.Need-add-n Inv-loop μ-loop
-add-n c = search needs
-
-add-r : tie.Need-add-r Inv-loop μ-loop
-add-r c = search needs
-
-loop-less : tie.Need-loop-less Inv-loop μ-loop
-loop-less c = search needs
-
 loop-again : tie.Need-loop-again Inv-loop μ-loop
 loop-again c = let h : c .before .before .before .before .loop .r < rows = omega arith in
     ⊎-elim
@@ -57,16 +39,5 @@ returns c = omega (arith, count-end (valuedBy (c .before .before .args .has .now
 
 pub valued-spec : {M : Type 1} → statement M
 valued-spec =
-    tie.close
-    (tie.spec
-    Inv-loop
-    μ-loop
-    loop-holds
-    mul-flag-at
-    element-copy-out-flag-at
-    flag-at-requires
-    add-n
-    add-r
-    loop-less
-    loop-again
-    returns)
+    tie.close (tie.spec Inv-loop μ-loop loop-holds (λ c. search needs) (λ c. search needs) (λ c κs. search needs) (λ c. search needs)
+    (λ c. search needs) (λ c. search needs) loop-again returns)

@@ -6,11 +6,8 @@ use Rattle.view.proofs.Lengths.{sized}
 use Rattle.resting.proofs.repair.repairable.Statement.{statement}
 use Rattle.resting.proofs.repair.repairable.Tie as tie
 
-repairable-of-requires : tie.Need-repairable-of-requires
-repairable-of-requires c κs = search needs
-
 returns : tie.Need-returns
 returns c = c .repairable-of .ensures .0 ∙ lent-repairable (c .before .before .before .before .before .before .before .before .before .before .before .before .args .t1) (sized (c .before .before .before .before .before .before .before .before .before .before .before .before .args .t1) (c .before .before .before .before .before .before .before .before .before .before .before .before .good .0))
 
 pub repairable-spec : {M : Type 1} → statement M
-repairable-spec = tie.close (tie.spec repairable-of-requires returns)
+repairable-spec = tie.close (tie.spec (λ c κs. search needs) returns)

@@ -3,11 +3,8 @@ use borrow.Author.Needs.{needs}
 use Rattle.resting.proofs.rest.resting.Statement.{statement}
 use Rattle.resting.proofs.rest.resting.Tie as tie
 
-resting-marked-requires : tie.Need-resting-marked-requires
-resting-marked-requires c κs = search needs
-
 returns : tie.Need-returns
 returns c = c .resting-marked .ensures .0
 
 pub resting-spec : {M : Type 1} → statement M
-resting-spec = tie.close (tie.spec resting-marked-requires returns)
+resting-spec = tie.close (tie.spec (λ c κs. search needs) returns)

@@ -6,13 +6,10 @@ use Rattle.view.proofs.Lengths.{sized}
 use Rattle.resting.proofs.rest.resting_marked.Statement.{statement}
 use Rattle.resting.proofs.rest.resting_marked.Tie as tie
 
-resting-of-requires : tie.Need-resting-of-requires
-resting-of-requires c κs = search needs
-
 returns : tie.Need-returns
 returns c =
     let s = c .before .before .before .before .before .before .before .before .before .before .before .before .before .before .before in
     (c .resting-of .ensures .0 ∙ lent-resting (s .args .t1) (sized (s .args .t1) (s .good .0)), c .resting-of .ensures .1)
 
 pub resting-marked-spec : {M : Type 1} → statement M
-resting-marked-spec = tie.close (tie.spec resting-of-requires returns)
+resting-marked-spec = tie.close (tie.spec (λ c κs. search needs) returns)

@@ -19,9 +19,6 @@ abbrev μ-loop : tie.MeasureT-loop
 loop-holds : tie.Need-loop-holds Inv-loop μ-loop
 loop-holds c = (search needs, search needs, refl)
 
-shared-slice-read-b : tie.Need-shared-slice-read-b Inv-loop μ-loop
-shared-slice-read-b c = search needs
-
 returns : tie.Need-returns Inv-loop μ-loop
 returns c =
     let a = c .before .before .before in sym (digits-low (a .before .args .s .now) (a .loop .v) (a .loop .i) (omega arith) (omega arith)) ∙ a .loop .inv .2
@@ -30,32 +27,14 @@ returns-2 : tie.Need-returns-2 Inv-loop μ-loop
 returns-2 c =
     let a = c .before .before .before .before in sym (digits-high (a .before .args .s .now) (a .loop .v) (a .loop .i) (omega arith) (omega arith)) ∙ a .loop .inv .2
 
-mul-v : tie.Need-mul-v Inv-loop μ-loop
-mul-v c = search needs
-
-cast-v : tie.Need-cast-v Inv-loop μ-loop
-cast-v c = search needs
-
-add-v : tie.Need-add-v Inv-loop μ-loop
-add-v c = search needs
-
 returns-3 : tie.Need-returns-3 Inv-loop μ-loop
 returns-3 c =
     let a = c .before .before .before .before .before in sym (digits-large (a .before .args .s .now) (a .loop .v) (a .loop .i) (omega arith) (omega arith)) ∙ a .loop .inv .2
-
-add-i : tie.Need-add-i Inv-loop μ-loop
-add-i c = search needs
-
-loop-less : tie.Need-loop-less Inv-loop μ-loop
-loop-less c = search needs
 
 loop-again : tie.Need-loop-again Inv-loop μ-loop
 loop-again c =
     let a = c .before .before .before .before .before in
     (omega arith, omega arith, sym (digits-more (a .before .args .s .now) (a .loop .v) (a .loop .i) (omega arith) (omega arith) (omega arith) (omega arith)) ∙ a .loop .inv .2)
-
-cast-t11 : tie.Need-cast-t11 Inv-loop μ-loop
-cast-t11 c = search needs
 
 returns-4 : tie.Need-returns-4 Inv-loop μ-loop
 returns-4 c =
@@ -63,20 +42,5 @@ returns-4 c =
 
 pub digits-spec : {M : Type 1} → statement M
 digits-spec =
-    tie.close
-    (tie.spec
-    Inv-loop
-    μ-loop
-    loop-holds
-    shared-slice-read-b
-    returns
-    returns-2
-    mul-v
-    cast-v
-    add-v
-    returns-3
-    add-i
-    loop-less
-    loop-again
-    cast-t11
-    returns-4)
+    tie.close (tie.spec Inv-loop μ-loop loop-holds (λ c. search needs) returns returns-2 (λ c. search needs) (λ c. search needs) (λ c. search needs)
+    returns-3 (λ c. search needs) (λ c. search needs) loop-again (λ c. search needs) returns-4)

@@ -9,9 +9,6 @@ use Rattle.script.proofs.field.letter.Tie as tie
 returns : tie.Need-returns
 returns c = letter-other (c .before .args .s .now) (c .if1 .taken)
 
-shared-slice-read-b : tie.Need-shared-slice-read-b
-shared-slice-read-b c = search needs
-
 returns-2 : tie.Need-returns-2
 returns-2 c =
     let w = c .before .before .before .args .s .now in
@@ -28,4 +25,4 @@ returns-4 c =
     rw (← letter-one w (c .before .before .before .if1 .left)) (simp (le-leb _ _ (c .before .if2 .left), le-leb _ _ (c .if3 .left)))
 
 pub letter-spec : {M : Type 1} → statement M
-letter-spec = tie.close (tie.spec returns shared-slice-read-b returns-2 returns-3 returns-4)
+letter-spec = tie.close (tie.spec returns (λ c. search needs) returns-2 returns-3 returns-4)

@@ -5,15 +5,9 @@ use borrow.Author.Needs.{needs}
 use Rattle.script.proofs.field.mode.Statement.{statement}
 use Rattle.script.proofs.field.mode.Tie as tie
 
-is-byte-requires : tie.Need-is-byte-requires
-is-byte-requires c κs = search needs
-
 returns : tie.Need-returns
 unfolding modeOf
 returns c = rw (sym (c .before .is-byte .ensures) ∙ c .if1 .taken)
-
-is-byte-requires-2 : tie.Need-is-byte-requires-2
-is-byte-requires-2 c κs = search needs
 
 returns-2 : tie.Need-returns-2
 unfolding modeOf
@@ -24,4 +18,4 @@ unfolding modeOf
 returns-3 c = rw (sym (c .before .before .before .is-byte .ensures) ∙ c .before .before .if1 .left, sym (c .before .is-byte2 .ensures) ∙ c .if2 .left)
 
 pub mode-spec : {M : Type 1} → statement M
-mode-spec = tie.close (tie.spec is-byte-requires returns is-byte-requires-2 returns-2 returns-3)
+mode-spec = tie.close (tie.spec (λ c κs. search needs) returns (λ c κs. search needs) returns-2 returns-3)

@@ -9,32 +9,14 @@ use Rattle.script.proofs.field.number.Tie as tie
 returns : tie.Need-returns
 returns c = sym (number-none (c .before .before .args .s .now) (omega arith))
 
-digits-requires : tie.Need-digits-requires
-digits-requires c κs = search needs
-
 returns-2 : tie.Need-returns-2
 returns-2 c = c .digits .ensures ∙ number-one (c .before .before .before .before .args .s .now) (omega arith)
 
-shared-slice-read-if3 : tie.Need-shared-slice-read-if3
-shared-slice-read-if3 c = search needs
-
 returns-3 : tie.Need-returns-3
 returns-3 c = sym (number-zero (c .before .before .before .before .before .args .s .now) (omega arith) (c .if3 .taken))
-
-digits-requires-2 : tie.Need-digits-requires-2
-digits-requires-2 c κs = search needs
 
 returns-4 : tie.Need-returns-4
 returns-4 c = c .digits2 .ensures ∙ number-more (c .before .before .before .before .before .before .args .s .now) (omega arith) (c .before .if3 .left)
 
 pub number-spec : {M : Type 1} → statement M
-number-spec =
-    tie.close
-    (tie.spec
-    returns
-    digits-requires
-    returns-2
-    shared-slice-read-if3
-    returns-3
-    digits-requires-2
-    returns-4)
+number-spec = tie.close (tie.spec returns (λ c κs. search needs) returns-2 (λ c. search needs) returns-3 (λ c κs. search needs) returns-4)

@@ -5,22 +5,10 @@ use borrow.Author.Needs.{needs}
 use Rattle.script.proofs.field.value.Statement.{statement}
 use Rattle.script.proofs.field.value.Tie as tie
 
-is-byte-requires : tie.Need-is-byte-requires
-is-byte-requires c κs = search needs
-
 returns : tie.Need-returns
 returns c =
     let dash = c .before in
     value-absent (dash .before .before .args .s .now) (sym (dash .is-byte .ensures) ∙ c .if1 .taken)
-
-number-requires : tie.Need-number-requires
-number-requires c κs = search needs
-
-enum-known-k : tie.Need-enum-known-k
-enum-known-k c = search needs
-
-enum-told : tie.Need-enum-told
-enum-told c = search needs
 
 returns-2 : tie.Need-returns-2
 returns-2 c =
@@ -36,6 +24,4 @@ returns-3 c =
     value-key (dash .before .before .args .s .now) (sym (dash .is-byte .ensures) ∙ other .if1 .left) (sym (at-k .k .given .1) ∙ at-k .before .before .number .ensures)
 
 pub value-spec : {M : Type 1} → statement M
-value-spec =
-    tie.close
-    (tie.spec is-byte-requires returns number-requires enum-known-k enum-told returns-2 returns-3)
+value-spec = tie.close (tie.spec (λ c κs. search needs) returns (λ c κs. search needs) (λ c. search needs) (λ c. search needs) returns-2 returns-3)

@@ -5,37 +5,16 @@ use Rattle.script.specs.Forms.{commit-fields}
 use Rattle.script.proofs.form.commit.Statement.{statement}
 use Rattle.script.proofs.form.commit.Tie as tie
 
-place-requires : tie.Need-place-requires
-place-requires c κs = search needs
-
-enum-known-i : tie.Need-enum-known-i
-enum-known-i c = search needs
-
-enum-told : tie.Need-enum-told
-enum-told c = search needs
-
 returns : tie.Need-returns
 returns c =
     let a = c .before .before .before .before .before .args in
     rw (commit-fields (a .p .now) (a .q .now), sym (c .before .before .place .ensures) ∙ c .enum-told .given .1)
-
-mode-requires : tie.Need-mode-requires
-mode-requires c κs = search needs
-
-enum-known-logged : tie.Need-enum-known-logged
-enum-known-logged c = search needs
-
-enum-told-2 : tie.Need-enum-told-2
-enum-told-2 c = search needs
 
 returns-2 : tie.Need-returns-2
 returns-2 c =
     let at-i = c .before .before .before .before in
     let a = at-i .before .before .before .before .before .args in
     rw (commit-fields (a .p .now) (a .q .now), sym (at-i .before .before .place .ensures) ∙ at-i .i .given .1, sym (c .before .before .mode .ensures) ∙ c .enum-told2 .given .1)
-
-cast-t7 : tie.Need-cast-t7
-cast-t7 c = search needs
 
 returns-3 : tie.Need-returns-3
 returns-3 c =
@@ -46,15 +25,5 @@ returns-3 c =
 
 pub commit-spec : {M : Type 1} → statement M
 commit-spec =
-    tie.close
-    (tie.spec
-    place-requires
-    enum-known-i
-    enum-told
-    returns
-    mode-requires
-    enum-known-logged
-    enum-told-2
-    returns-2
-    cast-t7
-    returns-3)
+    tie.close (tie.spec (λ c κs. search needs) (λ c. search needs) (λ c. search needs) returns (λ c κs. search needs) (λ c. search needs)
+    (λ c. search needs) returns-2 (λ c. search needs) returns-3)

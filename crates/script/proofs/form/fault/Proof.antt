@@ -5,43 +5,16 @@ use Rattle.script.specs.Forms.{fault-fields}
 use Rattle.script.proofs.form.fault.Statement.{statement}
 use Rattle.script.proofs.form.fault.Tie as tie
 
-number-requires : tie.Need-number-requires
-number-requires c κs = search needs
-
-enum-known-step : tie.Need-enum-known-step
-enum-known-step c = search needs
-
-enum-told : tie.Need-enum-told
-enum-told c = search needs
-
 returns : tie.Need-returns
 returns c =
     let a = c .before .before .before .before .before .before .args in
     rw (fault-fields (a .p .now) (a .q .now) (a .r .now), sym (c .before .before .number .ensures) ∙ c .enum-told .given .1)
-
-letter-requires : tie.Need-letter-requires
-letter-requires c κs = search needs
-
-enum-known-letter : tie.Need-enum-known-letter
-enum-known-letter c = search needs
-
-enum-told-2 : tie.Need-enum-told-2
-enum-told-2 c = search needs
 
 returns-2 : tie.Need-returns-2
 returns-2 c =
     let at-step = c .before .before .before .before in
     let a = at-step .before .before .before .before .before .before .args in
     rw (fault-fields (a .p .now) (a .q .now) (a .r .now), sym (at-step .before .before .number .ensures) ∙ at-step .step .given .1, sym (c .before .before .letter .ensures) ∙ c .enum-told2 .given .1)
-
-number-requires-2 : tie.Need-number-requires-2
-number-requires-2 c κs = search needs
-
-enum-known-k : tie.Need-enum-known-k
-enum-known-k c = search needs
-
-enum-told-3 : tie.Need-enum-told-3
-enum-told-3 c = search needs
 
 returns-3 : tie.Need-returns-3
 returns-3 c =
@@ -60,18 +33,5 @@ returns-4 c =
 
 pub fault-spec : {M : Type 1} → statement M
 fault-spec =
-    tie.close
-    (tie.spec
-    number-requires
-    enum-known-step
-    enum-told
-    returns
-    letter-requires
-    enum-known-letter
-    enum-told-2
-    returns-2
-    number-requires-2
-    enum-known-k
-    enum-told-3
-    returns-3
-    returns-4)
+    tie.close (tie.spec (λ c κs. search needs) (λ c. search needs) (λ c. search needs) returns (λ c κs. search needs) (λ c. search needs)
+    (λ c. search needs) returns-2 (λ c κs. search needs) (λ c. search needs) (λ c. search needs) returns-3 returns-4)

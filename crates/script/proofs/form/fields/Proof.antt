@@ -8,32 +8,11 @@ use Rattle.script.specs.Split.{after, split-first, split-last, form-long
 use Rattle.script.proofs.form.fields.Statement.{statement}
 use Rattle.script.proofs.form.fields.Tie as tie
 
-up-to-requires : tie.Need-up-to-requires
-up-to-requires c κs = search needs
-
-one-field-requires : tie.Need-one-field-requires
-one-field-requires c κs = search needs
-
 returns : tie.Need-returns
 returns c =
     let a = c .before .before in
     let s = a .before .before .args .s .now in
     rw (split-last 9 s (a .up-to .ensures .0) (c .before .if1 .taken)) (c .one-field .ensures)
-
-add-t : tie.Need-add-t
-add-t c = search needs
-
-sub-t : tie.Need-sub-t
-sub-t c = search needs
-
-part-t-start : tie.Need-part-t-start
-part-t-start c = search needs
-
-part-t-end : tie.Need-part-t-end
-part-t-end c = search needs
-
-up-to-requires-2 : tie.Need-up-to-requires-2
-up-to-requires-2 c κs = search needs
 
 slice-aggregate-two-fields : tie.Need-slice-aggregate-two-fields
 slice-aggregate-two-fields c =
@@ -42,30 +21,12 @@ slice-aggregate-two-fields c =
     let s = a .before .before .args .s .now in
     sym (length-take-le (a .up-to .result) s (omega arith))
 
-two-fields-requires : tie.Need-two-fields-requires
-two-fields-requires c κs = search needs
-
 returns-2 : tie.Need-returns-2
 returns-2 c =
     let b = c .before .before .before in
     let a = b .before .before .before in
     let s = a .before .before .args .s .now in
     rw (split-first 9 s (a .up-to .ensures .0) (omega arith), split-last 9 (after s (a .up-to .result)) (b .up-to2 .ensures .0) (c .before .before .if2 .taken)) (c .two-fields .ensures)
-
-add-u : tie.Need-add-u
-add-u c = search needs
-
-sub-u : tie.Need-sub-u
-sub-u c = search needs
-
-part-u-start : tie.Need-part-u-start
-part-u-start c = search needs
-
-part-u-end : tie.Need-part-u-end
-part-u-end c = search needs
-
-up-to-requires-3 : tie.Need-up-to-requires-3
-up-to-requires-3 c κs = search needs
 
 slice-aggregate-three-fields : tie.Need-slice-aggregate-three-fields
 slice-aggregate-three-fields c =
@@ -82,9 +43,6 @@ slice-aggregate-three-fields-2 c =
     let a = b .before .before .before in
     let s = a .before .before .args .s .now in
     sym (length-take-le (b .up-to2 .result) (after s (a .up-to .result)) (omega arith))
-
-three-fields-requires : tie.Need-three-fields-requires
-three-fields-requires c κs = search needs
 
 returns-3 : tie.Need-returns-3
 returns-3 c =
@@ -110,26 +68,7 @@ returns-4 c =
 
 pub fields-spec : {M : Type 1} → statement M
 fields-spec =
-    tie.close
-    (tie.spec
-    up-to-requires
-    one-field-requires
-    returns
-    add-t
-    sub-t
-    part-t-start
-    part-t-end
-    up-to-requires-2
-    slice-aggregate-two-fields
-    two-fields-requires
-    returns-2
-    add-u
-    sub-u
-    part-u-start
-    part-u-end
-    up-to-requires-3
-    slice-aggregate-three-fields
-    slice-aggregate-three-fields-2
-    three-fields-requires
-    returns-3
-    returns-4)
+    tie.close (tie.spec (λ c κs. search needs) (λ c κs. search needs) returns (λ c. search needs) (λ c. search needs) (λ c. search needs)
+    (λ c. search needs) (λ c κs. search needs) slice-aggregate-two-fields (λ c κs. search needs) returns-2 (λ c. search needs) (λ c. search needs)
+    (λ c. search needs) (λ c. search needs) (λ c κs. search needs) slice-aggregate-three-fields slice-aggregate-three-fields-2 (λ c κs. search needs)
+    returns-3 returns-4)

@@ -6,25 +6,10 @@ use Rattle.script.specs.Forms.{one-field, bad}
 use Rattle.script.proofs.form.one_field.Statement.{statement}
 use Rattle.script.proofs.form.one_field.Tie as tie
 
-place-requires : tie.Need-place-requires
-place-requires c κs = search needs
-
-enum-known-i : tie.Need-enum-known-i
-enum-known-i c = search needs
-
-enum-told : tie.Need-enum-told
-enum-told c = search needs
-
 returns : tie.Need-returns
 returns c =
     let a = c .before .before .before .before .args in
     rw (one-field (a .c) (a .p .now), sym (c .before .before .place .ensures) ∙ c .enum-told .given .1) (simp bad)
-
-cast-t6 : tie.Need-cast-t6
-cast-t6 c = search needs
-
-cast-t7 : tie.Need-cast-t7
-cast-t7 c = search needs
 
 returns-2 : tie.Need-returns-2
 returns-2 c =
@@ -45,14 +30,5 @@ returns-4 c =
 
 pub one-field-spec : {M : Type 1} → statement M
 one-field-spec =
-    tie.close
-    (tie.spec
-    place-requires
-    enum-known-i
-    enum-told
-    returns
-    cast-t6
-    cast-t7
-    returns-2
-    returns-3
-    returns-4)
+    tie.close (tie.spec (λ c κs. search needs) (λ c. search needs) (λ c. search needs) returns (λ c. search needs) (λ c. search needs) returns-2
+    returns-3 returns-4)

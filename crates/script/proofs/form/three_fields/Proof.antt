@@ -4,15 +4,6 @@ use borrow.Author.Needs.{needs}
 use Rattle.script.proofs.form.three_fields.Statement.{statement}
 use Rattle.script.proofs.form.three_fields.Tie as tie
 
-write-requires : tie.Need-write-requires
-write-requires c κs = search needs
-
-cut-commit-requires : tie.Need-cut-commit-requires
-cut-commit-requires c κs = search needs
-
-fault-requires : tie.Need-fault-requires
-fault-requires c κs = search needs
-
 returns : tie.Need-returns
 returns c = rw (c .before .match .keys1) (c .write .ensures)
 
@@ -26,13 +17,4 @@ returns-4 : tie.Need-returns-4
 returns-4 c = rw (ne-eqb _ _ (c .match .rest .0 .0 .1), ne-eqb _ _ (c .match .rest .0 .1), ne-eqb _ _ (c .match .rest .1))
 
 pub three-fields-spec : {M : Type 1} → statement M
-three-fields-spec =
-    tie.close
-    (tie.spec
-    write-requires
-    cut-commit-requires
-    fault-requires
-    returns
-    returns-2
-    returns-3
-    returns-4)
+three-fields-spec = tie.close (tie.spec (λ c κs. search needs) (λ c κs. search needs) (λ c κs. search needs) returns returns-2 returns-3 returns-4)

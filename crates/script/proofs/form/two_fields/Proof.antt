@@ -6,49 +6,19 @@ use Rattle.script.specs.Forms.{two-fields, bad}
 use Rattle.script.proofs.form.two_fields.Statement.{statement}
 use Rattle.script.proofs.form.two_fields.Tie as tie
 
-commit-requires : tie.Need-commit-requires
-commit-requires c κs = search needs
-
 returns : tie.Need-returns
 returns c = rw (c .before .if1 .taken) (c .commit .ensures)
-
-place-requires : tie.Need-place-requires
-place-requires c κs = search needs
-
-enum-known-i : tie.Need-enum-known-i
-enum-known-i c = search needs
-
-enum-told : tie.Need-enum-told
-enum-told c = search needs
 
 returns-2 : tie.Need-returns-2
 returns-2 c =
     let a = c .before .before .before .before .before .before .args in
     rw (two-fields (a .c) (a .p .now) (a .q .now), ne-eqb _ _ (c .before .before .before .if1 .left), sym (c .before .before .place .ensures) ∙ c .enum-told .given .1) (simp bad)
 
-number-requires : tie.Need-number-requires
-number-requires c κs = search needs
-
-enum-known-n : tie.Need-enum-known-n
-enum-known-n c = search needs
-
-enum-told-2 : tie.Need-enum-told-2
-enum-told-2 c = search needs
-
 returns-3 : tie.Need-returns-3
 returns-3 c =
     let at-i = c .before .before .before .before in
     let a = at-i .before .before .before .before .before .before .args in
     rw (two-fields (a .c) (a .p .now) (a .q .now), ne-eqb _ _ (at-i .before .before .before .if1 .left), sym (at-i .before .before .place .ensures) ∙ at-i .i .given .1, sym (c .before .before .number .ensures) ∙ c .enum-told2 .given .1) (simp bad)
-
-cast-at : tie.Need-cast-at
-cast-at c = search needs
-
-cast-t11 : tie.Need-cast-t11
-cast-t11 c = search needs
-
-cast-t13 : tie.Need-cast-t13
-cast-t13 c = search needs
 
 returns-4 : tie.Need-returns-4
 returns-4 c =
@@ -78,22 +48,6 @@ returns-7 c =
 
 pub two-fields-spec : {M : Type 1} → statement M
 two-fields-spec =
-    tie.close
-    (tie.spec
-    commit-requires
-    returns
-    place-requires
-    enum-known-i
-    enum-told
-    returns-2
-    number-requires
-    enum-known-n
-    enum-told-2
-    returns-3
-    cast-at
-    cast-t11
-    cast-t13
-    returns-4
-    returns-5
-    returns-6
+    tie.close (tie.spec (λ c κs. search needs) returns (λ c κs. search needs) (λ c. search needs) (λ c. search needs) returns-2 (λ c κs. search needs)
+    (λ c. search needs) (λ c. search needs) returns-3 (λ c. search needs) (λ c. search needs) (λ c. search needs) returns-4 returns-5 returns-6
     returns-7)

@@ -5,28 +5,10 @@ use Rattle.script.specs.Forms.{write-fields}
 use Rattle.script.proofs.form.write.Statement.{statement}
 use Rattle.script.proofs.form.write.Tie as tie
 
-place-requires : tie.Need-place-requires
-place-requires c κs = search needs
-
-enum-known-i : tie.Need-enum-known-i
-enum-known-i c = search needs
-
-enum-told : tie.Need-enum-told
-enum-told c = search needs
-
 returns : tie.Need-returns
 returns c =
     let a = c .before .before .before .before .before .before .args in
     rw (write-fields (a .p .now) (a .q .now) (a .r .now), sym (c .before .before .place .ensures) ∙ c .enum-told .given .1)
-
-number-requires : tie.Need-number-requires
-number-requires c κs = search needs
-
-enum-known-n : tie.Need-enum-known-n
-enum-known-n c = search needs
-
-enum-told-2 : tie.Need-enum-told-2
-enum-told-2 c = search needs
 
 returns-2 : tie.Need-returns-2
 returns-2 c =
@@ -34,27 +16,12 @@ returns-2 c =
     let a = at-i .before .before .before .before .before .before .args in
     rw (write-fields (a .p .now) (a .q .now) (a .r .now), sym (at-i .before .before .place .ensures) ∙ at-i .i .given .1, sym (c .before .before .number .ensures) ∙ c .enum-told2 .given .1)
 
-value-requires : tie.Need-value-requires
-value-requires c κs = search needs
-
-enum-known-v : tie.Need-enum-known-v
-enum-known-v c = search needs
-
-enum-told-3 : tie.Need-enum-told-3
-enum-told-3 c = search needs
-
 returns-3 : tie.Need-returns-3
 returns-3 c =
     let at-n = c .before .before .before .before in
     let at-i = at-n .before .before .before .before in
     let a = at-i .before .before .before .before .before .before .args in
     rw (write-fields (a .p .now) (a .q .now) (a .r .now), sym (at-i .before .before .place .ensures) ∙ at-i .i .given .1, sym (at-n .before .before .number .ensures) ∙ at-n .n .given .1, sym (c .before .before .value .ensures) ∙ c .enum-told3 .given .1)
-
-cast-t10 : tie.Need-cast-t10
-cast-t10 c = search needs
-
-cast-t11 : tie.Need-cast-t11
-cast-t11 c = search needs
 
 returns-4 : tie.Need-returns-4
 returns-4 c =
@@ -66,20 +33,6 @@ returns-4 c =
 
 pub write-spec : {M : Type 1} → statement M
 write-spec =
-    tie.close
-    (tie.spec
-    place-requires
-    enum-known-i
-    enum-told
-    returns
-    number-requires
-    enum-known-n
-    enum-told-2
-    returns-2
-    value-requires
-    enum-known-v
-    enum-told-3
-    returns-3
-    cast-t10
-    cast-t11
+    tie.close (tie.spec (λ c κs. search needs) (λ c. search needs) (λ c. search needs) returns (λ c κs. search needs) (λ c. search needs)
+    (λ c. search needs) returns-2 (λ c κs. search needs) (λ c. search needs) (λ c. search needs) returns-3 (λ c. search needs) (λ c. search needs)
     returns-4)

@@ -6,42 +6,6 @@ use Rattle.script.specs.PrintLaws.{line-text}
 use Rattle.script.proofs.print.print_line.Statement.{statement}
 use Rattle.script.proofs.print.print_line.Tie as tie
 
-slice-aggregate-put-byte : tie.Need-slice-aggregate-put-byte
-slice-aggregate-put-byte c = search needs
-
-put-byte-requires : tie.Need-put-byte-requires
-put-byte-requires c κs = search needs
-
-slice-aggregate-put-third : tie.Need-slice-aggregate-put-third
-slice-aggregate-put-third c = search needs
-
-put-third-requires : tie.Need-put-third-requires
-put-third-requires c κs = search needs
-
-slice-aggregate-put-byte-2 : tie.Need-slice-aggregate-put-byte-2
-slice-aggregate-put-byte-2 c = search needs
-
-put-byte-requires-2 : tie.Need-put-byte-requires-2
-put-byte-requires-2 c κs = search needs
-
-slice-aggregate-put-number : tie.Need-slice-aggregate-put-number
-slice-aggregate-put-number c = search needs
-
-put-number-requires : tie.Need-put-number-requires
-put-number-requires c κs = search needs
-
-slice-aggregate-put-byte-3 : tie.Need-slice-aggregate-put-byte-3
-slice-aggregate-put-byte-3 c = search needs
-
-put-byte-requires-3 : tie.Need-put-byte-requires-3
-put-byte-requires-3 c κs = search needs
-
-slice-aggregate-put-number-2 : tie.Need-slice-aggregate-put-number-2
-slice-aggregate-put-number-2 c = search needs
-
-put-number-requires-2 : tie.Need-put-number-requires-2
-put-number-requires-2 c κs = search needs
-
 returns : tie.Need-returns
 returns c =
     let line = c .before in
@@ -61,18 +25,6 @@ returns c =
 
 pub print-line-spec : {M : Type 1} → statement M
 print-line-spec =
-    tie.close
-    (tie.spec
-    slice-aggregate-put-byte
-    put-byte-requires
-    slice-aggregate-put-third
-    put-third-requires
-    slice-aggregate-put-byte-2
-    put-byte-requires-2
-    slice-aggregate-put-number
-    put-number-requires
-    slice-aggregate-put-byte-3
-    put-byte-requires-3
-    slice-aggregate-put-number-2
-    put-number-requires-2
-    returns)
+    tie.close (tie.spec (λ c. search needs) (λ c κs. search needs) (λ c. search needs) (λ c κs. search needs) (λ c. search needs)
+    (λ c κs. search needs) (λ c. search needs) (λ c κs. search needs) (λ c. search needs) (λ c κs. search needs) (λ c. search needs)
+    (λ c κs. search needs) returns)

@@ -5,21 +5,9 @@ use Rattle.script.specs.PrintLaws.{put-before}
 use Rattle.script.proofs.print.put_byte.Statement.{statement}
 use Rattle.script.proofs.print.put_byte.Tie as tie
 
-sub-out : tie.Need-sub-out
-sub-out c = search needs
-
-slice-write-out : tie.Need-slice-write-out
-slice-write-out c = search needs
-
-sub-result : tie.Need-sub-result
-sub-result c = search needs
-
-same-length : tie.Need-same-length
-same-length c = search needs
-
 returns : tie.Need-returns
 returns c =
     (omega arith, put-before (c .args .out .now) (c .args .at) (omega arith) (omega arith) (c .args .b))
 
 pub put-byte-spec : {M : Type 1} → statement M
-put-byte-spec = tie.close (tie.spec sub-out slice-write-out sub-result same-length returns)
+put-byte-spec = tie.close (tie.spec (λ c. search needs) (λ c. search needs) (λ c. search needs) (λ c. search needs) returns)

@@ -17,26 +17,11 @@ Inv-loop out₀ at n stop k₀ left₀ out k left =
 abbrev μ-loop : tie.MeasureT-loop
 μ-loop out₀ at n stop k₀ left₀ out k left = k
 
-sub-stop : tie.Need-sub-stop Inv-loop μ-loop
-sub-stop c = search needs
-
 loop-holds : tie.Need-loop-holds Inv-loop μ-loop
 unfolding inDecimal
 loop-holds c =
     let e : c .args .at - (c .args .at - 20) ≡ 20 = omega arith in
     (omega arith, omega arith, refl, rw e)
-
-sub-k : tie.Need-sub-k Inv-loop μ-loop
-sub-k c = search needs
-
-cast-out : tie.Need-cast-out Inv-loop μ-loop
-cast-out c = search needs
-
-add-out : tie.Need-add-out Inv-loop μ-loop
-add-out c = search needs
-
-slice-write-out : tie.Need-slice-write-out Inv-loop μ-loop
-slice-write-out c = search needs
 
 same-length : tie.Need-same-length Inv-loop μ-loop
 same-length c = simp length-set (search needs)
@@ -47,17 +32,11 @@ returns c =
     let l = a .loop .out in
     (omega arith, omega arith, sym (digits-last l (a .before .args .at - 20) (a .loop .k) (a .loop .left) (omega arith) (omega arith) (omega arith)) ∙ a .loop .inv .3)
 
-loop-less : tie.Need-loop-less Inv-loop μ-loop
-loop-less c = search needs
-
 loop-again : tie.Need-loop-again Inv-loop μ-loop
 loop-again c =
     let a = c .before .before in
     let l = a .loop .out in
     (omega arith, omega arith, simp length-set (a .loop .inv .2), sym (digits-more l (a .before .args .at - 20) (a .loop .k) (a .loop .left) (omega arith) (omega arith) (omega arith)) ∙ a .loop .inv .3)
-
-same-length-2 : tie.Need-same-length-2 Inv-loop μ-loop
-same-length-2 c = search needs
 
 returns-2 : tie.Need-returns-2 Inv-loop μ-loop
 returns-2 c =
@@ -67,19 +46,5 @@ returns-2 c =
 
 pub put-number-spec : {M : Type 1} → statement M
 put-number-spec =
-    tie.close
-    (tie.spec
-    Inv-loop
-    μ-loop
-    sub-stop
-    loop-holds
-    sub-k
-    cast-out
-    add-out
-    slice-write-out
-    same-length
-    returns
-    loop-less
-    loop-again
-    same-length-2
-    returns-2)
+    tie.close (tie.spec Inv-loop μ-loop (λ c. search needs) loop-holds (λ c. search needs) (λ c. search needs) (λ c. search needs) (λ c. search needs)
+    same-length returns (λ c. search needs) loop-again (λ c. search needs) returns-2)

@@ -7,9 +7,6 @@ use Rattle.view.specs.Active.{activeFrom, active-zero, active-next}
 use Rattle.sight.proofs.active.oldest_active.Statement.{statement}
 use Rattle.sight.proofs.active.oldest_active.Tie as tie
 
-element-copy-out-a : tie.Need-element-copy-out-a
-element-copy-out-a c = search needs
-
 returns : tie.Need-returns
 unfolding activeFrom
 returns c = ap (λ l. getD l 0 (c .before .before .args .clock)) (sym (active-zero _ 0 (omega arith) (c .if1 .taken)))
@@ -19,4 +16,4 @@ unfolding activeFrom
 returns-2 c = ap (λ l. getD l 0 (c .before .before .args .clock)) (sym (active-next _ 0 (omega arith) (c .if1 .left)))
 
 pub oldest-active-spec : {M : Type 1} → statement M
-oldest-active-spec = tie.close (tie.spec element-copy-out-a returns returns-2)
+oldest-active-spec = tie.close (tie.spec (λ c. search needs) returns returns-2)

@@ -17,20 +17,11 @@ Inv-loop heads next xmin x p₀ left₀ p left = (left ≤ places) × (visibleFr
 abbrev μ-loop : tie.MeasureT-loop
 μ-loop heads next xmin x p₀ left₀ p left = left
 
-head-of-requires : tie.Need-head-of-requires Inv-loop μ-loop
-head-of-requires c κs = search needs
-
 loop-holds : tie.Need-loop-holds Inv-loop μ-loop
 loop-holds c = (search needs, refl)
 
 returns : tie.Need-returns Inv-loop μ-loop
 returns c = sym (visible-end _ _ _ _ _ (c .if1 .taken)) ∙ (c .before .before .before .loop .inv .1 ∙ visible-whole _ _ _ _ _ _ (c .before .before .before .before .head-of .ensures))
-
-txid-at-requires : tie.Need-txid-at-requires Inv-loop μ-loop
-txid-at-requires c κs = search needs
-
-sees-by-requires : tie.Need-sees-by-requires Inv-loop μ-loop
-sees-by-requires c κs = search needs
 
 returns-2 : tie.Need-returns-2 Inv-loop μ-loop
 returns-2 c =
@@ -39,15 +30,6 @@ returns-2 c =
     let seen = sym (sees-by x _ _ (snapshot-long x (turn .before .before .before .before .before .before .good .1 .1 .1 .0)) (c .before .sees-by .ensures)) ∙ c .if2 .taken in
     sym (visible-here _ _ _ _ _ _ (turn .before .before .before .loop-test .taken) (turn .before .if1 .left) (turn .txid-at .ensures) seen)
     ∙ (turn .before .before .before .before .loop .inv .1 ∙ visible-whole _ _ _ _ _ _ (turn .before .before .before .before .before .head-of .ensures))
-
-pointer-at-requires : tie.Need-pointer-at-requires Inv-loop μ-loop
-pointer-at-requires c κs = search needs
-
-sub-left : tie.Need-sub-left Inv-loop μ-loop
-sub-left c = search needs
-
-loop-less : tie.Need-loop-less Inv-loop μ-loop
-loop-less c = search needs
 
 loop-again : tie.Need-loop-again Inv-loop μ-loop
 loop-again c =
@@ -63,18 +45,5 @@ returns-3 c =
 
 pub visible-version-spec : {M : Type 1} → statement M
 visible-version-spec =
-    tie.close
-    (tie.spec
-    Inv-loop
-    μ-loop
-    head-of-requires
-    loop-holds
-    returns
-    txid-at-requires
-    sees-by-requires
-    returns-2
-    pointer-at-requires
-    sub-left
-    loop-less
-    loop-again
-    returns-3)
+    tie.close (tie.spec Inv-loop μ-loop (λ c κs. search needs) loop-holds returns (λ c κs. search needs) (λ c κs. search needs) returns-2
+    (λ c κs. search needs) (λ c. search needs) (λ c. search needs) loop-again returns-3)

@@ -4,12 +4,6 @@ use Rattle.sight.specs.Found.{base-chain, base-own}
 use Rattle.sight.proofs.found.base_of.Statement.{statement}
 use Rattle.sight.proofs.found.base_of.Tie as tie
 
-last-own-requires : tie.Need-last-own-requires
-last-own-requires c κs = search needs
-
-visible-version-requires : tie.Need-visible-version-requires
-visible-version-requires c κs = search needs
-
 returns : tie.Need-returns
 returns c = base-chain _ _ _ _ _ _ (c .before .before .before .last-own .ensures) _ (c .before .if1 .taken) (c .visible-version .ensures)
 
@@ -17,4 +11,4 @@ returns-2 : tie.Need-returns-2
 returns-2 c = base-own _ _ _ _ _ _ (c .before .before .before .last-own .ensures) (c .before .if1 .left)
 
 pub base-of-spec : {M : Type 1} → statement M
-base-of-spec = tie.close (tie.spec last-own-requires visible-version-requires returns returns-2)
+base-of-spec = tie.close (tie.spec (λ c κs. search needs) (λ c κs. search needs) returns returns-2)

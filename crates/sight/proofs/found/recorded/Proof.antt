@@ -4,12 +4,6 @@ use Rattle.sight.specs.Found.{recorded-chain, recorded-own}
 use Rattle.sight.proofs.found.recorded.Statement.{statement}
 use Rattle.sight.proofs.found.recorded.Tie as tie
 
-last-own-requires : tie.Need-last-own-requires
-last-own-requires c κs = search needs
-
-visible-version-requires : tie.Need-visible-version-requires
-visible-version-requires c κs = search needs
-
 returns : tie.Need-returns
 returns c = recorded-chain _ _ _ _ _ _ (c .before .before .before .last-own .ensures) _ (c .before .if1 .taken) (c .visible-version .ensures)
 
@@ -17,4 +11,4 @@ returns-2 : tie.Need-returns-2
 returns-2 c = recorded-own _ _ _ _ _ _ (c .before .before .last-own .ensures) (c .if1 .left)
 
 pub recorded-spec : {M : Type 1} → statement M
-recorded-spec = tie.close (tie.spec last-own-requires visible-version-requires returns returns-2)
+recorded-spec = tie.close (tie.spec (λ c κs. search needs) (λ c κs. search needs) returns returns-2)

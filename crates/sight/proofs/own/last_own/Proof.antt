@@ -18,26 +18,11 @@ Inv-loop r x own₀ i₀ own i = (i ≤ min (x .«write_count») writeLimit) × 
 abbrev μ-loop : tie.MeasureT-loop
 μ-loop r x own₀ i₀ own i = i
 
-clipped-requires : tie.Need-clipped-requires Inv-loop μ-loop
-clipped-requires c κs = search needs
-
 loop-holds : tie.Need-loop-holds Inv-loop μ-loop
 loop-holds c =
     let x = c .before .args .t1 in
     let long = writes-long x (c .before .good .0) in
     (omega arith, ap (lastOwn _) (sym (first-end (x .«write_count») (x .writes) _ (omega arith))))
-
-sub-i : tie.Need-sub-i Inv-loop μ-loop
-sub-i c = search needs
-
-mul-w : tie.Need-mul-w Inv-loop μ-loop
-mul-w c = search needs
-
-element-copy-out-w : tie.Need-element-copy-out-w Inv-loop μ-loop
-element-copy-out-w c = search needs
-
-loop-less : tie.Need-loop-less Inv-loop μ-loop
-loop-less c = search needs
 
 loop-again : tie.Need-loop-again Inv-loop μ-loop
 loop-again c =
@@ -47,9 +32,6 @@ loop-again c =
     let next = first-back (x .«write_count») (x .writes) (turn .loop .i) noWrite (omega arith) (omega arith) in
     (omega arith, own-here _ _ _ _ _ next (turn .loop .inv .1) (omega arith) (c .if2 .taken))
 
-loop-less-2 : tie.Need-loop-less-2 Inv-loop μ-loop
-loop-less-2 c = search needs
-
 loop-again-2 : tie.Need-loop-again-2 Inv-loop μ-loop
 loop-again-2 c =
     let turn = c .before .before .before .before .before .before .before in
@@ -57,9 +39,6 @@ loop-again-2 c =
     let long = writes-long x (turn .before .before .good .0) in
     let next = first-back (x .«write_count») (x .writes) (turn .loop .i) noWrite (omega arith) (omega arith) in
     (omega arith, own-none _ _ _ _ _ next (turn .loop .inv .1) (omega arith) (c .if2 .left))
-
-loop-less-3 : tie.Need-loop-less-3 Inv-loop μ-loop
-loop-less-3 c = search needs
 
 loop-again-3 : tie.Need-loop-again-3 Inv-loop μ-loop
 loop-again-3 c =
@@ -74,19 +53,5 @@ returns c = let e : c .before .loop .i ≡ 0 = omega arith in rw e at (c .before
 
 pub last-own-spec : {M : Type 1} → statement M
 last-own-spec =
-    tie.close
-    (tie.spec
-    Inv-loop
-    μ-loop
-    clipped-requires
-    loop-holds
-    sub-i
-    mul-w
-    element-copy-out-w
-    loop-less
-    loop-again
-    loop-less-2
-    loop-again-2
-    loop-less-3
-    loop-again-3
-    returns)
+    tie.close (tie.spec Inv-loop μ-loop (λ c κs. search needs) loop-holds (λ c. search needs) (λ c. search needs) (λ c. search needs)
+    (λ c. search needs) loop-again (λ c. search needs) loop-again-2 (λ c. search needs) loop-again-3 returns)

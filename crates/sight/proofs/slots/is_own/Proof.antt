@@ -4,12 +4,6 @@ use Rattle.sight.specs.Slots.{own-unmarked, own-other}
 use Rattle.sight.proofs.slots.is_own.Statement.{statement}
 use Rattle.sight.proofs.slots.is_own.Tie as tie
 
-txid-at-requires : tie.Need-txid-at-requires
-txid-at-requires c κs = search needs
-
-mark-at-requires : tie.Need-mark-at-requires
-mark-at-requires c κs = search needs
-
 returns : tie.Need-returns
 returns c = own-unmarked _ _ _ _ _ (c .before .before .before .before .txid-at .ensures) _ (c .mark-at .ensures) (c .before .if1 .taken)
 
@@ -17,4 +11,4 @@ returns-2 : tie.Need-returns-2
 returns-2 c = own-other _ _ _ _ _ (c .before .before .before .txid-at .ensures) (c .if1 .left)
 
 pub is-own-spec : {M : Type 1} → statement M
-is-own-spec = tie.close (tie.spec txid-at-requires mark-at-requires returns returns-2)
+is-own-spec = tie.close (tie.spec (λ c κs. search needs) (λ c κs. search needs) returns returns-2)

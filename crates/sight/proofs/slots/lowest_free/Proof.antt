@@ -20,23 +20,8 @@ loop-holds : tie.Need-loop-holds Inv-loop μ-loop
 unfolding freeFrom lowestFree
 loop-holds c = search needs
 
-mul-if1 : tie.Need-mul-if1 Inv-loop μ-loop
-mul-if1 c = search needs
-
-element-copy-out-if1 : tie.Need-element-copy-out-if1 Inv-loop μ-loop
-element-copy-out-if1 c = search needs
-
-cast-t8 : tie.Need-cast-t8 Inv-loop μ-loop
-cast-t8 c = search needs
-
 returns : tie.Need-returns Inv-loop μ-loop
 returns c = sym (free-here _ _ (omega arith) (c .if1 .taken)) ∙ c .before .before .before .loop .inv .1
-
-add-i : tie.Need-add-i Inv-loop μ-loop
-add-i c = search needs
-
-loop-less : tie.Need-loop-less Inv-loop μ-loop
-loop-less c = search needs
 
 loop-again : tie.Need-loop-again Inv-loop μ-loop
 loop-again c = (omega arith, sym (free-next _ _ (omega arith) (c .if1 .left)) ∙ c .before .before .before .loop .inv .1)
@@ -46,16 +31,5 @@ returns-2 c = sym (free-end _ _ (omega arith)) ∙ c .before .loop .inv .1
 
 pub lowest-free-spec : {M : Type 1} → statement M
 lowest-free-spec =
-    tie.close
-    (tie.spec
-    Inv-loop
-    μ-loop
-    loop-holds
-    mul-if1
-    element-copy-out-if1
-    cast-t8
-    returns
-    add-i
-    loop-less
-    loop-again
-    returns-2)
+    tie.close (tie.spec Inv-loop μ-loop loop-holds (λ c. search needs) (λ c. search needs) (λ c. search needs) returns (λ c. search needs)
+    (λ c. search needs) loop-again returns-2)

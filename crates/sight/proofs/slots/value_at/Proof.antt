@@ -3,12 +3,6 @@ use borrow.Author.Needs.{needs}
 use Rattle.sight.proofs.slots.value_at.Statement.{statement}
 use Rattle.sight.proofs.slots.value_at.Tie as tie
 
-flag-at-requires : tie.Need-flag-at-requires
-flag-at-requires c κs = search needs
-
-key-at-requires : tie.Need-key-at-requires
-key-at-requires c κs = search needs
-
 returns : tie.Need-returns
 returns c = rw (← c .before .before .flag-at .ensures, c .before .if1 .taken, ← c .key-at .ensures)
 
@@ -16,4 +10,4 @@ returns-2 : tie.Need-returns-2
 returns-2 c = rw (← c .before .flag-at .ensures, c .if1 .left)
 
 pub value-at-spec : {M : Type 1} → statement M
-value-at-spec = tie.close (tie.spec flag-at-requires key-at-requires returns returns-2)
+value-at-spec = tie.close (tie.spec (λ c κs. search needs) (λ c κs. search needs) returns returns-2)

@@ -6,9 +6,6 @@ use borrow.Author.Needs.{needs}
 use Rattle.steps.proofs.answers.record_of.Statement.{statement}
 use Rattle.steps.proofs.answers.record_of.Tie as tie
 
-final-writes-requires : tie.Need-final-writes-requires
-final-writes-requires c κs = search needs
-
 returns : tie.Need-returns
 unfolding recordIf finalsLaid
 returns c = rw (c .before .before .final-writes .ensures, c .before .before .before .if1 .taken)
@@ -18,4 +15,4 @@ unfolding recordIf noRecord
 returns-2 c = rw (c .if1 .left)
 
 pub record-of-spec : {M : Type 1} → statement M
-record-of-spec = tie.close (tie.spec final-writes-requires returns returns-2)
+record-of-spec = tie.close (tie.spec (λ c κs. search needs) returns returns-2)

@@ -3,9 +3,6 @@ use borrow.Author.Needs.{needs}
 use Rattle.steps.proofs.ends.aborted.Statement.{statement}
 use Rattle.steps.proofs.ends.aborted.Tie as tie
 
-only-txid-requires : tie.Need-only-txid-requires
-only-txid-requires c κs = search needs
-
 returns : tie.Need-returns
 returns c = rw (c .if1 .taken)
 
@@ -13,4 +10,4 @@ returns-2 : tie.Need-returns-2
 returns-2 c = rw (c .before .if1 .left) (c .only-txid .ensures)
 
 pub aborted-spec : {M : Type 1} → statement M
-aborted-spec = tie.close (tie.spec only-txid-requires returns returns-2)
+aborted-spec = tie.close (tie.spec (λ c κs. search needs) returns returns-2)

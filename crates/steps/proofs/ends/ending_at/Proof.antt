@@ -5,66 +5,6 @@ use borrow.Author.Needs.{needs}
 use Rattle.steps.proofs.ends.ending_at.Statement.{statement}
 use Rattle.steps.proofs.ends.ending_at.Tie as tie
 
-number-at-requires : tie.Need-number-at-requires
-number-at-requires c κs = search needs
-
-element-copy-out-failed : tie.Need-element-copy-out-failed
-element-copy-out-failed c = search needs
-
-stays-requires : tie.Need-stays-requires
-stays-requires c κs = search needs
-
-prepare-failed-requires : tie.Need-prepare-failed-requires
-prepare-failed-requires c κs = search needs
-
-prepare-panicked-requires : tie.Need-prepare-panicked-requires
-prepare-panicked-requires c κs = search needs
-
-conflict-requires : tie.Need-conflict-requires
-conflict-requires c κs = search needs
-
-stays-requires-2 : tie.Need-stays-requires-2
-stays-requires-2 c κs = search needs
-
-element-copy-out-found-poisoned : tie.Need-element-copy-out-found-poisoned
-element-copy-out-found-poisoned c = search needs
-
-found-poisoned-requires : tie.Need-found-poisoned-requires
-found-poisoned-requires c κs = search needs
-
-element-copy-out-insert-failed : tie.Need-element-copy-out-insert-failed
-element-copy-out-insert-failed c = search needs
-
-insert-failed-requires : tie.Need-insert-failed-requires
-insert-failed-requires c κs = search needs
-
-callback-at-requires : tie.Need-callback-at-requires
-callback-at-requires c κs = search needs
-
-spoils-requires : tie.Need-spoils-requires
-spoils-requires c κs = search needs
-
-element-copy-out-spoils : tie.Need-element-copy-out-spoils
-element-copy-out-spoils c = search needs
-
-spoils-requires-2 : tie.Need-spoils-requires-2
-spoils-requires-2 c κs = search needs
-
-element-copy-out-spoils-2 : tie.Need-element-copy-out-spoils-2
-element-copy-out-spoils-2 c = search needs
-
-spoils-requires-3 : tie.Need-spoils-requires-3
-spoils-requires-3 c κs = search needs
-
-spoils-requires-4 : tie.Need-spoils-requires-4
-spoils-requires-4 c κs = search needs
-
-spoils-requires-5 : tie.Need-spoils-requires-5
-spoils-requires-5 c κs = search needs
-
-stays-requires-3 : tie.Need-stays-requires-3
-stays-requires-3 c κs = search needs
-
 returns : tie.Need-returns
 unfolding endingFor
 returns c = rw (← c .before .before .before .number-at .ensures, c .before .match .keys1) (c .stays .ensures)
@@ -124,39 +64,8 @@ returns-14 c = let rest = c .before .match .rest in
 
 pub ending-at-spec : {M : Type 1} → statement M
 ending-at-spec =
-    tie.close
-    (tie.spec
-    number-at-requires
-    element-copy-out-failed
-    stays-requires
-    prepare-failed-requires
-    prepare-panicked-requires
-    conflict-requires
-    stays-requires-2
-    element-copy-out-found-poisoned
-    found-poisoned-requires
-    element-copy-out-insert-failed
-    insert-failed-requires
-    callback-at-requires
-    spoils-requires
-    element-copy-out-spoils
-    spoils-requires-2
-    element-copy-out-spoils-2
-    spoils-requires-3
-    spoils-requires-4
-    spoils-requires-5
-    stays-requires-3
-    returns
-    returns-2
-    returns-3
-    returns-4
-    returns-5
-    returns-6
-    returns-7
-    returns-8
-    returns-9
-    returns-10
-    returns-11
-    returns-12
-    returns-13
-    returns-14)
+    tie.close (tie.spec (λ c κs. search needs) (λ c. search needs) (λ c κs. search needs) (λ c κs. search needs) (λ c κs. search needs)
+    (λ c κs. search needs) (λ c κs. search needs) (λ c. search needs) (λ c κs. search needs) (λ c. search needs) (λ c κs. search needs)
+    (λ c κs. search needs) (λ c κs. search needs) (λ c. search needs) (λ c κs. search needs) (λ c. search needs) (λ c κs. search needs)
+    (λ c κs. search needs) (λ c κs. search needs) (λ c κs. search needs) returns returns-2 returns-3 returns-4 returns-5 returns-6 returns-7 returns-8
+    returns-9 returns-10 returns-11 returns-12 returns-13 returns-14)

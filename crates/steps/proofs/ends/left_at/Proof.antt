@@ -7,12 +7,6 @@ use borrow.Author.Needs.{needs}
 use Rattle.steps.proofs.ends.left_at.Statement.{statement}
 use Rattle.steps.proofs.ends.left_at.Tie as tie
 
-array-read-result : tie.Need-array-read-result
-array-read-result c = search needs
-
-array-read-result-2 : tie.Need-array-read-result-2
-array-read-result-2 c = search needs
-
 returns : tie.Need-returns
 unfolding gateLeft
 returns c = within gateLeft (c .before .args .gate) 0 4 (omega arith)
@@ -22,4 +16,4 @@ unfolding gateLeft
 returns-2 c = sym (List·getD-eq-default gateLeft 4 {n = c .before .args .gate} (omega arith))
 
 pub left-at-spec : {M : Type 1} → statement M
-left-at-spec = tie.close (tie.spec array-read-result array-read-result-2 returns returns-2)
+left-at-spec = tie.close (tie.spec (λ c. search needs) (λ c. search needs) returns returns-2)

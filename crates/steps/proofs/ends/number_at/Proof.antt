@@ -7,9 +7,6 @@ use borrow.Author.Needs.{needs}
 use Rattle.steps.proofs.ends.number_at.Statement.{statement}
 use Rattle.steps.proofs.ends.number_at.Tie as tie
 
-array-read-result : tie.Need-array-read-result
-array-read-result c = search needs
-
 returns : tie.Need-returns
 unfolding gateNumbers
 returns c = refl
@@ -19,4 +16,4 @@ unfolding gateNumbers
 returns-2 c = sym (List·getD-eq-default gateNumbers 0 {n = c .before .args .gate} (omega arith))
 
 pub number-at-spec : {M : Type 1} → statement M
-number-at-spec = tie.close (tie.spec array-read-result returns returns-2)
+number-at-spec = tie.close (tie.spec (λ c. search needs) returns returns-2)

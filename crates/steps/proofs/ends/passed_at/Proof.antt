@@ -7,15 +7,6 @@ use borrow.Author.Needs.{needs}
 use Rattle.steps.proofs.ends.passed_at.Statement.{statement}
 use Rattle.steps.proofs.ends.passed_at.Tie as tie
 
-mul-result : tie.Need-mul-result
-mul-result c = search needs
-
-array-read-result : tie.Need-array-read-result
-array-read-result c = search needs
-
-array-read-result-2 : tie.Need-array-read-result-2
-array-read-result-2 c = search needs
-
 returns : tie.Need-returns
 unfolding gatePassed
 returns c = within gatePassed (c .before .args .gate) 0 23 (omega arith)
@@ -25,5 +16,4 @@ unfolding gatePassed
 returns-2 c = sym (List·getD-eq-default gatePassed 23 {n = c .before .args .gate} (omega arith))
 
 pub passed-at-spec : {M : Type 1} → statement M
-passed-at-spec =
-    tie.close (tie.spec mul-result array-read-result array-read-result-2 returns returns-2)
+passed-at-spec = tie.close (tie.spec (λ c. search needs) (λ c. search needs) (λ c. search needs) returns returns-2)

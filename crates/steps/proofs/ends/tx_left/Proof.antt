@@ -5,24 +5,6 @@ use borrow.Author.Needs.{needs}
 use Rattle.steps.proofs.ends.tx_left.Statement.{statement}
 use Rattle.steps.proofs.ends.tx_left.Tie as tie
 
-left-at-requires : tie.Need-left-at-requires
-left-at-requires c κs = search needs
-
-element-copy-out-aborted : tie.Need-element-copy-out-aborted
-element-copy-out-aborted c = search needs
-
-aborted-requires : tie.Need-aborted-requires
-aborted-requires c κs = search needs
-
-no-accesses-requires : tie.Need-no-accesses-requires
-no-accesses-requires c κs = search needs
-
-no-writes-requires : tie.Need-no-writes-requires
-no-writes-requires c κs = search needs
-
-emptied-requires : tie.Need-emptied-requires
-emptied-requires c κs = search needs
-
 returns : tie.Need-returns
 unfolding txFor
 returns c = rw (← c .before .left-at .ensures, c .match .keys1)
@@ -46,16 +28,5 @@ returns-5 c = let rest = c .before .match .rest in
 
 pub tx-left-spec : {M : Type 1} → statement M
 tx-left-spec =
-    tie.close
-    (tie.spec
-    left-at-requires
-    element-copy-out-aborted
-    aborted-requires
-    no-accesses-requires
-    no-writes-requires
-    emptied-requires
-    returns
-    returns-2
-    returns-3
-    returns-4
-    returns-5)
+    tie.close (tie.spec (λ c κs. search needs) (λ c. search needs) (λ c κs. search needs) (λ c κs. search needs) (λ c κs. search needs)
+    (λ c κs. search needs) returns returns-2 returns-3 returns-4 returns-5)

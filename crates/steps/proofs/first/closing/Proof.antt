@@ -5,24 +5,15 @@ use borrow.Author.Needs.{needs}
 use Rattle.steps.proofs.first.closing.Statement.{statement}
 use Rattle.steps.proofs.first.closing.Tie as tie
 
-prepare-index-destinations-requires : tie.Need-prepare-index-destinations-requires
-prepare-index-destinations-requires c κs = search needs
-
 returns : tie.Need-returns
 unfolding closingTests
 returns c = gate-stops _ _ _ _ (c .before .prepare-index-destinations .ensures) (c .if1 .taken)
-
-invoke-before-publish-requires : tie.Need-invoke-before-publish-requires
-invoke-before-publish-requires c κs = search needs
 
 returns-2 : tie.Need-returns-2
 unfolding closingTests
 returns-2 c =
     gate-goes _ _ _ _ _ (c .before .before .before .prepare-index-destinations .ensures) (c .before .before .if1 .left) (omega arith) (
     gate-stops _ _ _ _ (c .before .invoke-before-publish .ensures) (c .if2 .taken))
-
-remove-index-sources-requires : tie.Need-remove-index-sources-requires
-remove-index-sources-requires c κs = search needs
 
 returns-3 : tie.Need-returns-3
 unfolding closingTests
@@ -31,9 +22,6 @@ returns-3 c =
     gate-goes _ _ _ _ _ (c .before .before .before .invoke-before-publish .ensures) (c .before .before .if2 .left) (omega arith) (
     gate-stops _ _ _ _ (c .before .remove-index-sources .ensures) (c .if3 .taken)))
 
-publish-write-set-requires : tie.Need-publish-write-set-requires
-publish-write-set-requires c κs = search needs
-
 returns-4 : tie.Need-returns-4
 unfolding closingTests
 returns-4 c =
@@ -41,9 +29,6 @@ returns-4 c =
     gate-goes _ _ _ _ _ (c .before .before .before .before .before .invoke-before-publish .ensures) (c .before .before .before .before .if2 .left) (omega arith) (
     gate-goes _ _ _ _ _ (c .before .before .before .remove-index-sources .ensures) (c .before .before .if3 .left) (omega arith) (
     gate-stops _ _ _ _ (c .before .publish-write-set .ensures) (c .if4 .taken))))
-
-recycle-non-final-writes-requires : tie.Need-recycle-non-final-writes-requires
-recycle-non-final-writes-requires c κs = search needs
 
 returns-5 : tie.Need-returns-5
 unfolding closingTests
@@ -54,14 +39,8 @@ returns-5 c =
     gate-goes _ _ _ _ _ (c .before .before .before .publish-write-set .ensures) (c .before .before .if4 .left) (omega arith) (
     gate-stops _ _ _ _ (c .before .recycle-non-final-writes .ensures) (c .if5 .taken)))))
 
-flush-local-recycle-caches-requires : tie.Need-flush-local-recycle-caches-requires
-flush-local-recycle-caches-requires c κs = search needs
-
 returns-6 : tie.Need-returns-6
 returns-6 c = absurd (let z : ⊥ = omega arith in z)
-
-finish-transaction-requires : tie.Need-finish-transaction-requires
-finish-transaction-requires c κs = search needs
 
 returns-7 : tie.Need-returns-7
 unfolding closingTests
@@ -72,9 +51,6 @@ returns-7 c =
     gate-goes _ _ _ _ _ (c .before .before .before .before .before .before .before .publish-write-set .ensures) (c .before .before .before .before .before .before .if4 .left) (omega arith) (
     gate-goes _ _ _ _ _ (c .before .before .before .before .before .recycle-non-final-writes .ensures) (c .before .before .before .before .if5 .left) (omega arith) (
     gate-stops _ _ _ _ (c .before .finish-transaction .ensures) (c .if7 .taken))))))
-
-publish-index-stamps-requires : tie.Need-publish-index-stamps-requires
-publish-index-stamps-requires c κs = search needs
 
 returns-8 : tie.Need-returns-8
 unfolding closingTests
@@ -89,21 +65,5 @@ returns-8 c =
 
 pub closing-spec : {M : Type 1} → statement M
 closing-spec =
-    tie.close
-    (tie.spec
-    prepare-index-destinations-requires
-    returns
-    invoke-before-publish-requires
-    returns-2
-    remove-index-sources-requires
-    returns-3
-    publish-write-set-requires
-    returns-4
-    recycle-non-final-writes-requires
-    returns-5
-    flush-local-recycle-caches-requires
-    returns-6
-    finish-transaction-requires
-    returns-7
-    publish-index-stamps-requires
-    returns-8)
+    tie.close (tie.spec (λ c κs. search needs) returns (λ c κs. search needs) returns-2 (λ c κs. search needs) returns-3 (λ c κs. search needs)
+    returns-4 (λ c κs. search needs) returns-5 (λ c κs. search needs) returns-6 (λ c κs. search needs) returns-7 (λ c κs. search needs) returns-8)

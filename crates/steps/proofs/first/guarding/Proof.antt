@@ -5,15 +5,9 @@ use borrow.Author.Needs.{needs}
 use Rattle.steps.proofs.first.guarding.Statement.{statement}
 use Rattle.steps.proofs.first.guarding.Tie as tie
 
-acquire-index-locks-requires : tie.Need-acquire-index-locks-requires
-acquire-index-locks-requires c κs = search needs
-
 returns : tie.Need-returns
 unfolding guardingTests
 returns c = gate-stops _ _ _ _ (c .before .acquire-index-locks .ensures) (c .if1 .taken)
-
-acquire-partition-locks-requires : tie.Need-acquire-partition-locks-requires
-acquire-partition-locks-requires c κs = search needs
 
 returns-2 : tie.Need-returns-2
 unfolding guardingTests
@@ -21,18 +15,12 @@ returns-2 c =
     gate-goes _ _ _ _ _ (c .before .before .before .acquire-index-locks .ensures) (c .before .before .if1 .left) (omega arith) (
     gate-stops _ _ _ _ (c .before .acquire-partition-locks .ensures) (c .if2 .taken))
 
-ensure-unlogged-write-allowed-requires : tie.Need-ensure-unlogged-write-allowed-requires
-ensure-unlogged-write-allowed-requires c κs = search needs
-
 returns-3 : tie.Need-returns-3
 unfolding guardingTests
 returns-3 c =
     gate-goes _ _ _ _ _ (c .before .before .before .before .before .acquire-index-locks .ensures) (c .before .before .before .before .if1 .left) (omega arith) (
     gate-goes _ _ _ _ _ (c .before .before .before .acquire-partition-locks .ensures) (c .before .before .if2 .left) (omega arith) (
     gate-stops _ _ _ _ (c .before .ensure-unlogged-write-allowed .ensures) (c .if3 .taken)))
-
-check-not-poisoned-requires : tie.Need-check-not-poisoned-requires
-check-not-poisoned-requires c κs = search needs
 
 returns-4 : tie.Need-returns-4
 unfolding guardingTests
@@ -44,13 +32,5 @@ returns-4 c =
 
 pub guarding-spec : {M : Type 1} → statement M
 guarding-spec =
-    tie.close
-    (tie.spec
-    acquire-index-locks-requires
-    returns
-    acquire-partition-locks-requires
-    returns-2
-    ensure-unlogged-write-allowed-requires
-    returns-3
-    check-not-poisoned-requires
+    tie.close (tie.spec (λ c κs. search needs) returns (λ c κs. search needs) returns-2 (λ c κs. search needs) returns-3 (λ c κs. search needs)
     returns-4)

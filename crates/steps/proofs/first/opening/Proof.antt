@@ -5,27 +5,15 @@ use borrow.Author.Needs.{needs}
 use Rattle.steps.proofs.first.opening.Statement.{statement}
 use Rattle.steps.proofs.first.opening.Tie as tie
 
-ensure-open-requires : tie.Need-ensure-open-requires
-ensure-open-requires c κs = search needs
-
 returns : tie.Need-returns
 returns c = absurd (let z : ⊥ = omega arith in z)
-
-final-write-indices-requires : tie.Need-final-write-indices-requires
-final-write-indices-requires c κs = search needs
 
 returns-2 : tie.Need-returns-2
 returns-2 c = absurd (let z : ⊥ = omega arith in z)
 
-index-changes-requires : tie.Need-index-changes-requires
-index-changes-requires c κs = search needs
-
 returns-3 : tie.Need-returns-3
 unfolding openingTests
 returns-3 c = gate-stops _ _ _ _ (c .before .index-changes .ensures) (c .if3 .taken)
-
-index-lock-keys-requires : tie.Need-index-lock-keys-requires
-index-lock-keys-requires c κs = search needs
 
 returns-4 : tie.Need-returns-4
 unfolding openingTests
@@ -33,18 +21,12 @@ returns-4 c =
     gate-goes _ _ _ _ _ (c .before .before .before .index-changes .ensures) (c .before .before .if3 .left) (omega arith) (
     gate-stops _ _ _ _ (c .before .index-lock-keys .ensures) (c .if4 .taken))
 
-prepare-commit-record-requires : tie.Need-prepare-commit-record-requires
-prepare-commit-record-requires c κs = search needs
-
 returns-5 : tie.Need-returns-5
 unfolding openingTests
 returns-5 c =
     gate-goes _ _ _ _ _ (c .before .before .before .before .before .index-changes .ensures) (c .before .before .before .before .if3 .left) (omega arith) (
     gate-goes _ _ _ _ _ (c .before .before .before .index-lock-keys .ensures) (c .before .before .if4 .left) (omega arith) (
     gate-stops _ _ _ _ (c .before .prepare-commit-record .ensures) (c .if5 .taken)))
-
-run-prepare-requires : tie.Need-run-prepare-requires
-run-prepare-requires c κs = search needs
 
 returns-6 : tie.Need-returns-6
 unfolding openingTests
@@ -56,17 +38,5 @@ returns-6 c =
 
 pub opening-spec : {M : Type 1} → statement M
 opening-spec =
-    tie.close
-    (tie.spec
-    ensure-open-requires
-    returns
-    final-write-indices-requires
-    returns-2
-    index-changes-requires
-    returns-3
-    index-lock-keys-requires
-    returns-4
-    prepare-commit-record-requires
-    returns-5
-    run-prepare-requires
-    returns-6)
+    tie.close (tie.spec (λ c κs. search needs) returns (λ c κs. search needs) returns-2 (λ c κs. search needs) returns-3 (λ c κs. search needs)
+    returns-4 (λ c κs. search needs) returns-5 (λ c κs. search needs) returns-6)

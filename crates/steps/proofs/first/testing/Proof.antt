@@ -5,23 +5,11 @@ use borrow.Author.Needs.{needs}
 use Rattle.steps.proofs.first.testing.Statement.{statement}
 use Rattle.steps.proofs.first.testing.Tie as tie
 
-index-read-conflict-requires : tie.Need-index-read-conflict-requires
-index-read-conflict-requires c κs = search needs
-
-index-read-conflict-requires-2 : tie.Need-index-read-conflict-requires-2
-index-read-conflict-requires-2 c κs = search needs
-
 returns : tie.Need-returns
 unfolding conflictTests
 returns c =
     rw (← c .before .before .index-read-conflict .ensures) (
     gate-stops _ _ _ _ (c .before .index-read-conflict2 .ensures) (c .if1 .taken))
-
-has-row-lock-conflict-requires : tie.Need-has-row-lock-conflict-requires
-has-row-lock-conflict-requires c κs = search needs
-
-has-row-lock-conflict-requires-2 : tie.Need-has-row-lock-conflict-requires-2
-has-row-lock-conflict-requires-2 c κs = search needs
 
 returns-2 : tie.Need-returns-2
 unfolding conflictTests
@@ -30,12 +18,6 @@ returns-2 c =
     gate-goes _ _ _ _ _ (c .before .before .before .before .index-read-conflict2 .ensures) (c .before .before .before .if1 .left) (omega arith) (
     gate-stops _ _ _ _ (c .before .has-row-lock-conflict2 .ensures) (c .if2 .taken)))
 
-has-serialization-conflict-requires : tie.Need-has-serialization-conflict-requires
-has-serialization-conflict-requires c κs = search needs
-
-has-serialization-conflict-requires-2 : tie.Need-has-serialization-conflict-requires-2
-has-serialization-conflict-requires-2 c κs = search needs
-
 returns-3 : tie.Need-returns-3
 unfolding conflictTests
 returns-3 c =
@@ -43,12 +25,6 @@ returns-3 c =
     gate-goes _ _ _ _ _ (c .before .before .before .before .before .before .before .index-read-conflict2 .ensures) (c .before .before .before .before .before .before .if1 .left) (omega arith) (
     gate-goes _ _ _ _ _ (c .before .before .before .before .has-row-lock-conflict2 .ensures) (c .before .before .before .if2 .left) (omega arith) (
     gate-stops _ _ _ _ (c .before .has-serialization-conflict2 .ensures) (c .if3 .taken))))
-
-has-write-base-conflict-requires : tie.Need-has-write-base-conflict-requires
-has-write-base-conflict-requires c κs = search needs
-
-has-write-base-conflict-requires-2 : tie.Need-has-write-base-conflict-requires-2
-has-write-base-conflict-requires-2 c κs = search needs
 
 returns-4 : tie.Need-returns-4
 unfolding conflictTests
@@ -61,17 +37,5 @@ returns-4 c =
 
 pub testing-spec : {M : Type 1} → statement M
 testing-spec =
-    tie.close
-    (tie.spec
-    index-read-conflict-requires
-    index-read-conflict-requires-2
-    returns
-    has-row-lock-conflict-requires
-    has-row-lock-conflict-requires-2
-    returns-2
-    has-serialization-conflict-requires
-    has-serialization-conflict-requires-2
-    returns-3
-    has-write-base-conflict-requires
-    has-write-base-conflict-requires-2
-    returns-4)
+    tie.close (tie.spec (λ c κs. search needs) (λ c κs. search needs) returns (λ c κs. search needs) (λ c κs. search needs) returns-2
+    (λ c κs. search needs) (λ c κs. search needs) returns-3 (λ c κs. search needs) (λ c κs. search needs) returns-4)

@@ -5,12 +5,6 @@ use borrow.Author.Needs.{needs}
 use Rattle.steps.proofs.gates.check_not_poisoned.Statement.{statement}
 use Rattle.steps.proofs.gates.check_not_poisoned.Tie as tie
 
-element-copy-out-if1 : tie.Need-element-copy-out-if1
-element-copy-out-if1 c = search needs
-
-gate-if-requires : tie.Need-gate-if-requires
-gate-if-requires c κs = search needs
-
 returns : tie.Need-returns
 unfolding gateFrom
 returns c = rw (eq-eqb _ _ (c .if1 .taken))
@@ -19,5 +13,4 @@ returns-2 : tie.Need-returns-2
 returns-2 c = rw (ne-eqb _ _ (c .before .if1 .left)) (c .gate-if .ensures)
 
 pub check-not-poisoned-spec : {M : Type 1} → statement M
-check-not-poisoned-spec =
-    tie.close (tie.spec element-copy-out-if1 gate-if-requires returns returns-2)
+check-not-poisoned-spec = tie.close (tie.spec (λ c. search needs) (λ c κs. search needs) returns returns-2)

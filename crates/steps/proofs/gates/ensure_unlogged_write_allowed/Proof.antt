@@ -8,12 +8,6 @@ returns : tie.Need-returns
 unfolding gateFrom
 returns c = rw (c .if1 .taken)
 
-element-copy-out-first-of-two : tie.Need-element-copy-out-first-of-two
-element-copy-out-first-of-two c = search needs
-
-first-of-two-requires : tie.Need-first-of-two-requires
-first-of-two-requires c κs = search needs
-
 returns-2 : tie.Need-returns-2
 returns-2 c = rw (c .before .before .before .if1 .left, c .before .before .if2 .taken) (c .first-of-two .ensures)
 
@@ -22,6 +16,4 @@ unfolding gateFrom
 returns-3 c = rw (c .before .if1 .left, c .if2 .left)
 
 pub ensure-unlogged-write-allowed-spec : {M : Type 1} → statement M
-ensure-unlogged-write-allowed-spec =
-    tie.close
-    (tie.spec returns element-copy-out-first-of-two first-of-two-requires returns-2 returns-3)
+ensure-unlogged-write-allowed-spec = tie.close (tie.spec returns (λ c. search needs) (λ c κs. search needs) returns-2 returns-3)

@@ -4,15 +4,6 @@ use borrow.Author.Needs.{needs}
 use Rattle.steps.proofs.gates.run_prepare.Statement.{statement}
 use Rattle.steps.proofs.gates.run_prepare.Tie as tie
 
-element-copy-out-first-of-two : tie.Need-element-copy-out-first-of-two
-element-copy-out-first-of-two c = search needs
-
-element-copy-out-first-of-two-2 : tie.Need-element-copy-out-first-of-two-2
-element-copy-out-first-of-two-2 c = search needs
-
-first-of-two-requires : tie.Need-first-of-two-requires
-first-of-two-requires c κs = search needs
-
 returns : tie.Need-returns
 returns c = rw (c .before .before .before .if1 .taken) (c .first-of-two .ensures)
 
@@ -21,11 +12,4 @@ unfolding gateFrom
 returns-2 c = rw (c .if1 .left)
 
 pub run-prepare-spec : {M : Type 1} → statement M
-run-prepare-spec =
-    tie.close
-    (tie.spec
-    element-copy-out-first-of-two
-    element-copy-out-first-of-two-2
-    first-of-two-requires
-    returns
-    returns-2)
+run-prepare-spec = tie.close (tie.spec (λ c. search needs) (λ c. search needs) (λ c κs. search needs) returns returns-2)

@@ -8,11 +8,8 @@ use borrow.Author.Needs.{needs}
 use Rattle.steps.proofs.left.emptied.Statement.{statement}
 use Rattle.steps.proofs.left.emptied.Tie as tie
 
-no-writes-requires : tie.Need-no-writes-requires
-no-writes-requires c κs = search needs
-
 returns : tie.Need-returns
 returns c = ap (λ (y : Tx). withSavepoints [] (withIndexReads [] false (withReads [] y))) (c .before .before .before .no-writes .ensures)
 
 pub emptied-spec : {M : Type 1} → statement M
-emptied-spec = tie.close (tie.spec no-writes-requires returns)
+emptied-spec = tie.close (tie.spec (λ c κs. search needs) returns)

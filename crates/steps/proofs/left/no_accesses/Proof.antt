@@ -7,11 +7,8 @@ use borrow.Author.Needs.{needs}
 use Rattle.steps.proofs.left.no_accesses.Statement.{statement}
 use Rattle.steps.proofs.left.no_accesses.Tie as tie
 
-no-writes-requires : tie.Need-no-writes-requires
-no-writes-requires c κs = search needs
-
 returns : tie.Need-returns
 returns c = ap (λ (y : Tx). withIndexReads [] (y .«index_conflict») (withReads [] y)) (c .before .before .no-writes .ensures)
 
 pub no-accesses-spec : {M : Type 1} → statement M
-no-accesses-spec = tie.close (tie.spec no-writes-requires returns)
+no-accesses-spec = tie.close (tie.spec (λ c κs. search needs) returns)

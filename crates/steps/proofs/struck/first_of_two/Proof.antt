@@ -5,12 +5,6 @@ use borrow.Author.Needs.{needs}
 use Rattle.steps.proofs.struck.first_of_two.Statement.{statement}
 use Rattle.steps.proofs.struck.first_of_two.Tie as tie
 
-add-gate-if : tie.Need-add-gate-if
-add-gate-if c = search needs
-
-gate-if-requires : tie.Need-gate-if-requires
-gate-if-requires c κs = search needs
-
 returns : tie.Need-returns
 unfolding gateFrom
 returns c = rw (c .if1 .taken)
@@ -20,4 +14,4 @@ unfolding gateFrom
 returns-2 c = rw (c .before .if1 .left, ← add-one (c .before .before .args .gate)) (c .gate-if .ensures)
 
 pub first-of-two-spec : {M : Type 1} → statement M
-first-of-two-spec = tie.close (tie.spec add-gate-if gate-if-requires returns returns-2)
+first-of-two-spec = tie.close (tie.spec (λ c. search needs) (λ c κs. search needs) returns returns-2)

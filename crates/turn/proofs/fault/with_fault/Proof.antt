@@ -28,38 +28,11 @@ returns c = rw (le-ltb (c .before .args .t2 .count) faultLimit (c .if1 .taken))
 loop-holds : tie.Need-loop-holds Inv-loop μ-loop
 loop-holds c = (omega arith, refl)
 
-mul-faults : tie.Need-mul-faults Inv-loop μ-loop
-mul-faults c = search needs
-
-element-copy-out-faults : tie.Need-element-copy-out-faults Inv-loop μ-loop
-element-copy-out-faults c = search needs
-
-mul-faults-2 : tie.Need-mul-faults-2 Inv-loop μ-loop
-mul-faults-2 c = search needs
-
-array-set-from-faults : tie.Need-array-set-from-faults Inv-loop μ-loop
-array-set-from-faults c = search needs
-
-add-i : tie.Need-add-i Inv-loop μ-loop
-add-i c = search needs
-
-loop-less : tie.Need-loop-less Inv-loop μ-loop
-loop-less c = search needs
-
 loop-again : tie.Need-loop-again Inv-loop μ-loop
 loop-again c =
     let s = c .before .before .before .before in
     let long = faults-long (s .args .t2) (s .good .1 .0) in
     (omega arith, pad-more faultLimit noFault _ _ _ (omega arith) (omega arith) (c .before .before .loop .inv .1))
-
-mul-faults-3 : tie.Need-mul-faults-3 Inv-loop μ-loop
-mul-faults-3 c = search needs
-
-array-set-from-faults-2 : tie.Need-array-set-from-faults-2 Inv-loop μ-loop
-array-set-from-faults-2 c = search needs
-
-add-t17 : tie.Need-add-t17 Inv-loop μ-loop
-add-t17 c = search needs
 
 returns-2 : tie.Need-returns-2 Inv-loop μ-loop
 unfolding withFault
@@ -74,20 +47,5 @@ returns-2 c =
 
 pub with-fault-spec : {M : Type 1} → statement M
 with-fault-spec =
-    tie.close
-    (tie.spec
-    Inv-loop
-    μ-loop
-    returns
-    loop-holds
-    mul-faults
-    element-copy-out-faults
-    mul-faults-2
-    array-set-from-faults
-    add-i
-    loop-less
-    loop-again
-    mul-faults-3
-    array-set-from-faults-2
-    add-t17
-    returns-2)
+    tie.close (tie.spec Inv-loop μ-loop returns loop-holds (λ c. search needs) (λ c. search needs) (λ c. search needs) (λ c. search needs)
+    (λ c. search needs) (λ c. search needs) loop-again (λ c. search needs) (λ c. search needs) (λ c. search needs) returns-2)

@@ -5,14 +5,8 @@ use borrow.Author.Needs.{needs}
 use Rattle.turn.proofs.lines.abort_line.Statement.{statement}
 use Rattle.turn.proofs.lines.abort_line.Tie as tie
 
-abort-requires : tie.Need-abort-requires
-abort-requires c κs = search needs
-
-answered-requires : tie.Need-answered-requires
-answered-requires c κs = search needs
-
 returns : tie.Need-returns
 returns c = let a = c .before .before .args in c .answered .ensures ∙ aborted (a .s) (a .x) (a .plan) (c .before .abort .ensures)
 
 pub abort-line-spec : {M : Type 1} → statement M
-abort-line-spec = tie.close (tie.spec abort-requires answered-requires returns)
+abort-line-spec = tie.close (tie.spec (λ c κs. search needs) (λ c κs. search needs) returns)

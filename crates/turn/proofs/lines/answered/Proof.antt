@@ -5,11 +5,8 @@ use Rattle.turn.specs.Turn.{left}
 use Rattle.turn.proofs.lines.answered.Statement.{statement}
 use Rattle.turn.proofs.lines.answered.Tie as tie
 
-number-of-requires : tie.Need-number-of-requires
-number-of-requires c κs = search needs
-
 returns : tie.Need-returns
 returns c = let a = c .before .args in λ i. left (a .store) (a .tx) (a .plan) (c .number-of .ensures i) (num (a .third))
 
 pub answered-spec : {M : Type 1} → statement M
-answered-spec = tie.close (tie.spec number-of-requires returns)
+answered-spec = tie.close (tie.spec (λ c κs. search needs) returns)

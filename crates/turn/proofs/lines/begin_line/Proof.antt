@@ -4,12 +4,6 @@ use borrow.Author.Needs.{needs}
 use Rattle.turn.proofs.lines.begin_line.Statement.{statement}
 use Rattle.turn.proofs.lines.begin_line.Tie as tie
 
-begin-requires : tie.Need-begin-requires
-begin-requires c κs = search needs
-
-number-of-requires : tie.Need-number-of-requires
-number-of-requires c κs = search needs
-
 returns : tie.Need-returns
 returns c = let a = c .before .before .before .before .args in begin-refused (a .s) (a .x) (a .plan) (c .before .before .before .begin .ensures) (c .before .before .number-of .ensures) (c .if1 .taken)
 
@@ -17,4 +11,4 @@ returns-2 : tie.Need-returns-2
 returns-2 c = let a = c .before .before .before .before .before .args in begun (a .s) (a .x) (a .plan) (c .before .before .before .before .begin .ensures) (c .before .before .before .number-of .ensures) (c .before .if1 .left)
 
 pub begin-line-spec : {M : Type 1} → statement M
-begin-line-spec = tie.close (tie.spec begin-requires number-of-requires returns returns-2)
+begin-line-spec = tie.close (tie.spec (λ c κs. search needs) (λ c κs. search needs) returns returns-2)

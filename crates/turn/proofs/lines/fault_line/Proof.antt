@@ -4,11 +4,8 @@ use borrow.Author.Needs.{needs}
 use Rattle.turn.proofs.lines.fault_line.Statement.{statement}
 use Rattle.turn.proofs.lines.fault_line.Tie as tie
 
-with-fault-requires : tie.Need-with-fault-requires
-with-fault-requires c κs = search needs
-
 returns : tie.Need-returns
 returns c = let a = c .before .args in faulted (a .s) (a .x) (a .plan) (a .f) (c .with-fault .ensures)
 
 pub fault-line-spec : {M : Type 1} → statement M
-fault-line-spec = tie.close (tie.spec with-fault-requires returns)
+fault-line-spec = tie.close (tie.spec (λ c κs. search needs) returns)

@@ -5,14 +5,8 @@ use borrow.Author.Needs.{needs}
 use Rattle.turn.proofs.lines.lock_line.Statement.{statement}
 use Rattle.turn.proofs.lines.lock_line.Tie as tie
 
-row-lock-requires : tie.Need-row-lock-requires
-row-lock-requires c κs = search needs
-
-answered-requires : tie.Need-answered-requires
-answered-requires c κs = search needs
-
 returns : tie.Need-returns
 returns c = let a = c .before .before .args in c .answered .ensures ∙ locked (a .s) (a .x) (a .plan) (a .row .0) (c .before .row-lock .ensures)
 
 pub lock-line-spec : {M : Type 1} → statement M
-lock-line-spec = tie.close (tie.spec row-lock-requires answered-requires returns)
+lock-line-spec = tie.close (tie.spec (λ c κs. search needs) (λ c κs. search needs) returns)

@@ -4,21 +4,11 @@ use borrow.Author.Needs.{needs}
 use Rattle.turn.proofs.lines.read_line.Statement.{statement}
 use Rattle.turn.proofs.lines.read_line.Tie as tie
 
-read-requires : tie.Need-read-requires
-read-requires c κs = search needs
-
-number-of-requires : tie.Need-number-of-requires
-number-of-requires c κs = search needs
-
 returns : tie.Need-returns
 returns c = let a = c .before .before .before .before .args in read-refused (a .s) (a .x) (a .plan) (a .row .0) (c .before .before .before .read .ensures) (c .before .before .number-of .ensures) (c .if1 .taken)
-
-key-or-dash-requires : tie.Need-key-or-dash-requires
-key-or-dash-requires c κs = search needs
 
 returns-2 : tie.Need-returns-2
 returns-2 c = let a = c .before .before .before .before .before .args in read-gave (a .s) (a .x) (a .plan) (a .row .0) (c .before .before .before .before .read .ensures) (c .before .before .before .number-of .ensures) (c .before .if1 .left) (c .key-or-dash .ensures)
 
 pub read-line-spec : {M : Type 1} → statement M
-read-line-spec =
-    tie.close (tie.spec read-requires number-of-requires returns key-or-dash-requires returns-2)
+read-line-spec = tie.close (tie.spec (λ c κs. search needs) (λ c κs. search needs) returns (λ c κs. search needs) returns-2)

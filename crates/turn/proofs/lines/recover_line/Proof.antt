@@ -5,14 +5,8 @@ use borrow.Author.Needs.{needs}
 use Rattle.turn.proofs.lines.recover_line.Statement.{statement}
 use Rattle.turn.proofs.lines.recover_line.Tie as tie
 
-recover-requires : tie.Need-recover-requires
-recover-requires c κs = search needs
-
-answered-requires : tie.Need-answered-requires
-answered-requires c κs = search needs
-
 returns : tie.Need-returns
 returns c = let a = c .before .before .args in c .answered .ensures ∙ recovered (a .s) (a .x) (a .plan) (c .before .recover .ensures)
 
 pub recover-line-spec : {M : Type 1} → statement M
-recover-line-spec = tie.close (tie.spec recover-requires answered-requires returns)
+recover-line-spec = tie.close (tie.spec (λ c κs. search needs) (λ c κs. search needs) returns)

@@ -5,17 +5,8 @@ use borrow.Author.Needs.{needs}
 use Rattle.turn.proofs.lines.write_line.Statement.{statement}
 use Rattle.turn.proofs.lines.write_line.Tie as tie
 
-write-requires : tie.Need-write-requires
-write-requires c κs = search needs
-
-cast-answered : tie.Need-cast-answered
-cast-answered c = search needs
-
-answered-requires : tie.Need-answered-requires
-answered-requires c κs = search needs
-
 returns : tie.Need-returns
 returns c = let a = c .before .before .before .args in c .answered .ensures ∙ wrote (a .s) (a .x) (a .plan) (a .row .0) (a .v) (c .before .before .write .ensures)
 
 pub write-line-spec : {M : Type 1} → statement M
-write-line-spec = tie.close (tie.spec write-requires cast-answered answered-requires returns)
+write-line-spec = tie.close (tie.spec (λ c κs. search needs) (λ c. search needs) (λ c κs. search needs) returns)

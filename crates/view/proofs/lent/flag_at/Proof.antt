@@ -8,12 +8,6 @@ use Rattle.view.specs.Lent.{array-at, array-past}
 use Rattle.view.proofs.lent.flag_at.Statement.{statement}
 use Rattle.view.proofs.lent.flag_at.Tie as tie
 
-cast-i : tie.Need-cast-i
-cast-i c = search needs
-
-element-copy-out-result : tie.Need-element-copy-out-result
-element-copy-out-result c = search needs
-
 returns : tie.Need-returns
 returns c = sym (array-at places false _ _ (omega arith))
 
@@ -21,4 +15,4 @@ returns-2 : tie.Need-returns-2
 returns-2 c = sym (array-past places false _ _ (omega arith))
 
 pub flag-at-spec : {M : Type 1} → statement M
-flag-at-spec = tie.close (tie.spec cast-i element-copy-out-result returns returns-2)
+flag-at-spec = tie.close (tie.spec (λ c. search needs) (λ c. search needs) returns returns-2)

@@ -7,15 +7,6 @@ use Rattle.view.specs.Lent.{array-at, array-past}
 use Rattle.view.proofs.lent.pointer_at.Statement.{statement}
 use Rattle.view.proofs.lent.pointer_at.Tie as tie
 
-cast-i : tie.Need-cast-i
-cast-i c = search needs
-
-mul-t6 : tie.Need-mul-t6
-mul-t6 c = search needs
-
-element-copy-out-t9 : tie.Need-element-copy-out-t9
-element-copy-out-t9 c = search needs
-
 returns : tie.Need-returns
 returns c = sym (array-at places 0 _ _ (omega arith))
 
@@ -23,4 +14,4 @@ returns-2 : tie.Need-returns-2
 returns-2 c = sym (array-past places 0 _ _ (omega arith))
 
 pub pointer-at-spec : {M : Type 1} → statement M
-pointer-at-spec = tie.close (tie.spec cast-i mul-t6 element-copy-out-t9 returns returns-2)
+pointer-at-spec = tie.close (tie.spec (λ c. search needs) (λ c. search needs) (λ c. search needs) returns returns-2)

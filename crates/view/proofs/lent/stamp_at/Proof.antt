@@ -8,12 +8,6 @@ use borrow.Author.Needs.{needs}
 use Rattle.view.proofs.lent.stamp_at.Statement.{statement}
 use Rattle.view.proofs.lent.stamp_at.Tie as tie
 
-mul-t6 : tie.Need-mul-t6
-mul-t6 c = search needs
-
-element-copy-out-t9 : tie.Need-element-copy-out-t9
-element-copy-out-t9 c = search needs
-
 returns : tie.Need-returns
 returns c = sym (array-at stripes 0 _ _ (omega arith))
 
@@ -21,4 +15,4 @@ returns-2 : tie.Need-returns-2
 returns-2 c = sym (array-past stripes 0 _ _ (omega arith))
 
 pub stamp-at-spec : {M : Type 1} → statement M
-stamp-at-spec = tie.close (tie.spec mul-t6 element-copy-out-t9 returns returns-2)
+stamp-at-spec = tie.close (tie.spec (λ c. search needs) (λ c. search needs) returns returns-2)

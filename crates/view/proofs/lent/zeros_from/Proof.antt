@@ -21,20 +21,8 @@ loop-holds : tie.Need-loop-holds Inv-loop μ-loop
 unfolding allLeft
 loop-holds c = ap (λ l. allZero (drop (c .args .n) l)) (array-same (length (c .args .x .now)) 0 (c .args .x .now) refl)
 
-mul-if1 : tie.Need-mul-if1 Inv-loop μ-loop
-mul-if1 c = search needs
-
-shared-slice-read-if1 : tie.Need-shared-slice-read-if1 Inv-loop μ-loop
-shared-slice-read-if1 c = search needs
-
 returns : tie.Need-returns Inv-loop μ-loop
 returns c = all-fail _ _ _ _ _ _ (c .before .before .before .loop .inv) (omega arith) (zero-no (c .if1 .taken))
-
-add-i : tie.Need-add-i Inv-loop μ-loop
-add-i c = search needs
-
-loop-less : tie.Need-loop-less Inv-loop μ-loop
-loop-less c = search needs
 
 loop-again : tie.Need-loop-again Inv-loop μ-loop
 loop-again c = all-pass _ _ _ _ _ _ (c .before .before .before .loop .inv) (omega arith) (zero-yes (c .if1 .left))
@@ -44,15 +32,5 @@ returns-2 c = all-end _ _ _ _ _ _ (c .before .loop .inv) (omega arith)
 
 pub zeros-from-spec : {M : Type 1} → statement M
 zeros-from-spec =
-    tie.close
-    (tie.spec
-    Inv-loop
-    μ-loop
-    loop-holds
-    mul-if1
-    shared-slice-read-if1
-    returns
-    add-i
-    loop-less
-    loop-again
+    tie.close (tie.spec Inv-loop μ-loop loop-holds (λ c. search needs) (λ c. search needs) returns (λ c. search needs) (λ c. search needs) loop-again
     returns-2)

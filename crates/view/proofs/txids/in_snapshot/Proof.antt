@@ -17,27 +17,12 @@ Inv-loop snapshot count t n i₀ i = (i ≤ n) × (n ≡ min count activeLimit) 
 abbrev μ-loop : tie.MeasureT-loop
 μ-loop snapshot count t n i₀ i = n - i
 
-clipped-requires : tie.Need-clipped-requires Inv-loop μ-loop
-clipped-requires c κs = search needs
-
 loop-holds : tie.Need-loop-holds Inv-loop μ-loop
 unfolding firstFrom
 loop-holds c = search needs
 
-mul-if1 : tie.Need-mul-if1 Inv-loop μ-loop
-mul-if1 c = search needs
-
-element-copy-out-if1 : tie.Need-element-copy-out-if1 Inv-loop μ-loop
-element-copy-out-if1 c = search needs
-
 returns : tie.Need-returns Inv-loop μ-loop
 returns c = sym (memb-first _ _ _ _ (lent-next activeLimit _ 0 _ _ (omega arith)) (c .if1 .taken)) ∙ c .before .before .before .before .loop .inv .2
-
-add-i : tie.Need-add-i Inv-loop μ-loop
-add-i c = search needs
-
-loop-less : tie.Need-loop-less Inv-loop μ-loop
-loop-less c = search needs
 
 loop-again : tie.Need-loop-again Inv-loop μ-loop
 loop-again c = (omega arith, omega arith, sym (memb-rest _ _ _ _ (lent-next activeLimit _ 0 _ _ (omega arith)) (c .if1 .left)) ∙ c .before .before .before .before .loop .inv .2)
@@ -47,16 +32,5 @@ returns-2 c = ap (memb _) (sym (lent-end activeLimit _ 0 _ _ (omega arith))) ∙
 
 pub in-snapshot-spec : {M : Type 1} → statement M
 in-snapshot-spec =
-    tie.close
-    (tie.spec
-    Inv-loop
-    μ-loop
-    clipped-requires
-    loop-holds
-    mul-if1
-    element-copy-out-if1
-    returns
-    add-i
-    loop-less
-    loop-again
-    returns-2)
+    tie.close (tie.spec Inv-loop μ-loop (λ c κs. search needs) loop-holds (λ c. search needs) (λ c. search needs) returns (λ c. search needs)
+    (λ c. search needs) loop-again returns-2)

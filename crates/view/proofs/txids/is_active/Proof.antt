@@ -22,23 +22,11 @@ loop-holds : tie.Need-loop-holds Inv-loop μ-loop
 unfolding activeFrom
 loop-holds c = search needs
 
-mul-a : tie.Need-mul-a Inv-loop μ-loop
-mul-a c = search needs
-
-element-copy-out-a : tie.Need-element-copy-out-a Inv-loop μ-loop
-element-copy-out-a c = search needs
-
 returns : tie.Need-returns Inv-loop μ-loop
 returns c = ap (memb _) (sym (active-zero _ _ (c .before .before .loop-test .taken) (c .if1 .taken))) ∙ c .before .before .before .loop .inv .1
 
 returns-2 : tie.Need-returns-2 Inv-loop μ-loop
 returns-2 c = sym (memb-first _ _ _ _ (active-next _ _ (omega arith) (c .before .before .if1 .left)) (c .if2 .taken)) ∙ c .before .before .before .before .before .loop .inv .1
-
-add-i : tie.Need-add-i Inv-loop μ-loop
-add-i c = search needs
-
-loop-less : tie.Need-loop-less Inv-loop μ-loop
-loop-less c = search needs
 
 loop-again : tie.Need-loop-again Inv-loop μ-loop
 loop-again c = (omega arith, sym (memb-rest _ _ _ _ (active-next _ _ (omega arith) (c .before .before .if1 .left)) (c .if2 .left)) ∙ c .before .before .before .before .before .loop .inv .1)
@@ -48,16 +36,5 @@ returns-3 c = ap (memb _) (sym (active-end _ _ (c .loop-test .left))) ∙ c .bef
 
 pub is-active-spec : {M : Type 1} → statement M
 is-active-spec =
-    tie.close
-    (tie.spec
-    Inv-loop
-    μ-loop
-    loop-holds
-    mul-a
-    element-copy-out-a
-    returns
-    returns-2
-    add-i
-    loop-less
-    loop-again
-    returns-3)
+    tie.close (tie.spec Inv-loop μ-loop loop-holds (λ c. search needs) (λ c. search needs) returns returns-2 (λ c. search needs) (λ c. search needs)
+    loop-again returns-3)

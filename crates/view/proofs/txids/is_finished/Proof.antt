@@ -10,11 +10,8 @@ returns c = finished-none _ _ _ (c .if1 .taken)
 returns-2 : tie.Need-returns-2
 returns-2 c = finished-doomed _ _ _ (c .before .if1 .left) (c .if2 .taken)
 
-listed-requires : tie.Need-listed-requires
-listed-requires c κs = search needs
-
 returns-3 : tie.Need-returns-3
 returns-3 c = finished-else _ _ _ _ (c .before .before .if1 .left) (c .before .if2 .left) (c .listed .ensures)
 
 pub is-finished-spec : {M : Type 1} → statement M
-is-finished-spec = tie.close (tie.spec returns returns-2 listed-requires returns-3)
+is-finished-spec = tie.close (tie.spec returns returns-2 (λ c κs. search needs) returns-3)

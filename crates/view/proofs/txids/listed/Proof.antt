@@ -20,20 +20,8 @@ loop-holds : tie.Need-loop-holds Inv-loop μ-loop
 unfolding firstFrom
 loop-holds c = let l = c .args .txids .now in ap (memb (c .args .t)) (take-all (length l) l (omega arith))
 
-mul-if1 : tie.Need-mul-if1 Inv-loop μ-loop
-mul-if1 c = search needs
-
-shared-slice-read-if1 : tie.Need-shared-slice-read-if1 Inv-loop μ-loop
-shared-slice-read-if1 c = search needs
-
 returns : tie.Need-returns Inv-loop μ-loop
 returns c = sym (memb-first _ _ _ _ (first-next _ _ _ 0 (omega arith)) (c .if1 .taken)) ∙ c .before .before .before .loop .inv
-
-add-i : tie.Need-add-i Inv-loop μ-loop
-add-i c = search needs
-
-loop-less : tie.Need-loop-less Inv-loop μ-loop
-loop-less c = search needs
 
 loop-again : tie.Need-loop-again Inv-loop μ-loop
 loop-again c = sym (memb-rest _ _ _ _ (first-next _ _ _ 0 (omega arith)) (c .if1 .left)) ∙ c .before .before .before .loop .inv
@@ -43,15 +31,5 @@ returns-2 c = ap (memb _) (sym (first-end _ _ _ (omega arith))) ∙ c .before .l
 
 pub listed-spec : {M : Type 1} → statement M
 listed-spec =
-    tie.close
-    (tie.spec
-    Inv-loop
-    μ-loop
-    loop-holds
-    mul-if1
-    shared-slice-read-if1
-    returns
-    add-i
-    loop-less
-    loop-again
+    tie.close (tie.spec Inv-loop μ-loop loop-holds (λ c. search needs) (λ c. search needs) returns (λ c. search needs) (λ c. search needs) loop-again
     returns-2)

@@ -38,12 +38,6 @@ rows-holds : tie.Need-rows-holds Inv-loop μ-loop Inv-rows μ-rows
 unfolding noMarks walk
 rows-holds c = search needs
 
-mul-p : tie.Need-mul-p Inv-loop μ-loop Inv-rows μ-rows
-mul-p c = search needs
-
-element-copy-out-p : tie.Need-element-copy-out-p Inv-loop μ-loop Inv-rows μ-rows
-element-copy-out-p c = search needs
-
 loop-holds : tie.Need-loop-holds Inv-loop μ-loop Inv-rows μ-rows
 loop-holds c =
     let heads = c .before .before .before .before .args .heads .now in
@@ -51,27 +45,6 @@ loop-holds c =
     let l : length (atRows heads) ≡ rows = array-length rows 0 _ in
     let turn = rows-cons (atPlaces (c .before .before .before .before .args .next .now)) (atRows heads) (c .before .before .rows .seen) r (omega arith) in
     (search needs, omega arith, search needs, sym (rw (array-at rows 0 heads r (omega arith)) at turn) ∙ c .before .before .rows .inv .2)
-
-place-requires : tie.Need-place-requires Inv-loop μ-loop Inv-rows μ-rows
-place-requires c κs = search needs
-
-element-copy-out-if3 : tie.Need-element-copy-out-if3 Inv-loop μ-loop Inv-rows μ-rows
-element-copy-out-if3 c = search needs
-
-element-write-seen : tie.Need-element-write-seen Inv-loop μ-loop Inv-rows μ-rows
-element-write-seen c = search needs
-
-mul-p-2 : tie.Need-mul-p-2 Inv-loop μ-loop Inv-rows μ-rows
-mul-p-2 c = search needs
-
-element-copy-out-p-2 : tie.Need-element-copy-out-p-2 Inv-loop μ-loop Inv-rows μ-rows
-element-copy-out-p-2 c = search needs
-
-sub-left : tie.Need-sub-left Inv-loop μ-loop Inv-rows μ-rows
-sub-left c = search needs
-
-loop-less : tie.Need-loop-less Inv-loop μ-loop Inv-rows μ-rows
-loop-less c = search needs
 
 loop-again : tie.Need-loop-again Inv-loop μ-loop Inv-rows μ-rows
 loop-again c = (
@@ -98,12 +71,6 @@ loop-again c = (
       ∙ c .before .before .before .before .before .before .before .loop .inv .3,
 )
 
-add-r : tie.Need-add-r Inv-loop μ-loop Inv-rows μ-rows
-add-r c = search needs
-
-rows-less : tie.Need-rows-less Inv-loop μ-loop Inv-rows μ-rows
-rows-less c = search needs
-
 rows-again : tie.Need-rows-again Inv-loop μ-loop Inv-rows μ-rows
 rows-again c = (omega arith, search needs, sym (after-end _ _ _ _ (row-end _ _ _ _ (omega arith))) ∙ c .before .loop .inv .3)
 
@@ -125,26 +92,6 @@ returns-2 c =
 
 pub walk-all-spec : {M : Type 1} → statement M
 walk-all-spec =
-    tie.close
-    (tie.spec
-    Inv-loop
-    μ-loop
-    Inv-rows
-    μ-rows
-    rows-holds
-    mul-p
-    element-copy-out-p
-    loop-holds
-    place-requires
-    element-copy-out-if3
-    element-write-seen
-    mul-p-2
-    element-copy-out-p-2
-    sub-left
-    loop-less
-    loop-again
-    add-r
-    rows-less
-    rows-again
-    returns
-    returns-2)
+    tie.close (tie.spec Inv-loop μ-loop Inv-rows μ-rows rows-holds (λ c. search needs) (λ c. search needs) loop-holds (λ c κs. search needs)
+    (λ c. search needs) (λ c. search needs) (λ c. search needs) (λ c. search needs) (λ c. search needs) (λ c. search needs) loop-again
+    (λ c. search needs) (λ c. search needs) rows-again returns returns-2)
