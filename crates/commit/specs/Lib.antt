@@ -1,3 +1,7 @@
 pub mod Tries
 pub mod Planning
 pub mod Run
+-- the demands of code
+pub mod Answers
+pub mod Quiet
+pub mod Demands

@@ -4,6 +4,7 @@ ghost use mathlib.Core.Path.{_≡_};
 ghost use Rattle.rules.specs.Answer.{commit};
 
 mod answers;
+pub mod joined;
 mod planning;
 mod run;
 

@@ -13,9 +13,9 @@ use Rattle.rules.specs.Types.{Tx}
 use Rattle.rules.specs.Replay.{Line, Desk, says, txAt, turn}
 use Rattle.rules.specs.Script.{Bytes, split, lineOf, write}
 use Rattle.script.specs.Print.{thirdOf}
-use Rattle.turn.specs.declared.Turned.{Turned}
+use Rattle.desk.specs.declared.turn.Turned.{Turned}
 use Rattle.desk.specs.declared.feed.Fed.{Fed}
-use Rattle.turn.specs.Turn.{placeIn, atFirst, single, turned, joined, turn-alone}
+use Rattle.desk.specs.Turn.{placeIn, atFirst, single, turned, joined, turn-alone}
 use Rattle.desk.specs.Put.{Puts, alike-on}
 use Rattle.desk.specs.Feed.{Reading, heldRoom, nextLine, lineEnd, withByte, fedByte, fed, ended, endedIn, answerRoom, reading, Counted, Feeds, Finishes}
 

@@ -2,7 +2,7 @@
 
 use super::shown::rows_of;
 use script::Line;
-use turn::turn;
+use desk::turn::turn;
 use types::Cut;
 use types::RowId;
 use types::Schedule;

@@ -6,7 +6,7 @@ use lib.ListN.{length, length-set}
 use borrow.Author.Needs.{needs}
 use Rattle.types.specs.Limits.{placeLimit}
 use Rattle.types.specs.Zero.{zeroTx}
-use Rattle.turn.specs.Turn.{place-in-below}
+use Rattle.desk.specs.Turn.{place-in-below}
 use Rattle.desk.specs.Feed.{heldIn}
 use Rattle.desk.specs.FeedLaws.{Goes, goes-none, within, on-feed, on-byte, feeds}
 use Rattle.desk.proofs.Long.{txs-long}

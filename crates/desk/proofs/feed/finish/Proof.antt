@@ -4,7 +4,7 @@ use native.Mathlib.Omega.{arith}
 use lib.ListN.{length, take, length-take}
 use borrow.Author.Needs.{needs}
 use Rattle.types.specs.Zero.{zeroTx}
-use Rattle.turn.specs.Turn.{place-in-below}
+use Rattle.desk.specs.Turn.{place-in-below}
 use Rattle.desk.specs.Feed.{heldIn, reading}
 use Rattle.desk.specs.FeedLaws.{within, end-puts, finish-none, finish-short, finish-line}
 use Rattle.desk.proofs.Long.{txs-long, under-way-long}

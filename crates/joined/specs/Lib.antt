@@ -1,3 +1,0 @@
-pub mod Answers
-pub mod Quiet
-pub mod Demands
