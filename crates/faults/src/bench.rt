@@ -1,8 +1,8 @@
 // The prepared store, and the open transaction whose commit has work at every step.
 
 use super::shown::rows_of;
-use script::Line;
 use desk::turn::turn;
+use script::Line;
 use types::Cut;
 use types::RowId;
 use types::Schedule;
