@@ -23,11 +23,19 @@ fn the_example() {
     assert_eq!(replay(SCRIPT), ANSWERS);
 }
 
-/// What the gate runs the replay program on, and what it must write.
+/// What the gate runs the replay program on, one script after the other, and what it must write.
 #[test]
-fn the_program_s_script() {
-    let script = file("crates/replay/stdin");
-    assert!(replay(&script) == file("crates/replay/stdout"));
+fn the_program_s_scripts() {
+    let names = String::from_utf8(file("crates/replay/args")).unwrap();
+    let mut answers = Vec::new();
+    for name in names.lines() {
+        let script = match name {
+            "-" => file("crates/replay/stdin"),
+            _ => file(&format!("crates/replay/data/{name}")),
+        };
+        answers.extend(replay(&script));
+    }
+    assert!(answers == file("crates/replay/stdout"));
 }
 
 #[test]

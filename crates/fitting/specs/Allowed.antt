@@ -11,7 +11,7 @@ use Rattle.rules.specs.Types.{Fault}
 use Rattle.rules.specs.Lists.{all, memb}
 use Rattle.rules.specs.Bools.{by}
 use Rattle.rules.specs.Faults.{F, B, P, X, Q, may, table, masks, bitOf, allowed, stepsApart}
-use Rattle.rules.specs.FaultTable.{letterEnd, mask-says, mask-counts}
+use Rattle.laws.specs.FaultTable.{letterEnd, mask-says, mask-counts}
 use Rattle.fitting.specs.Apart.{apart}
 
 -- a letter's bit is a number to divide by

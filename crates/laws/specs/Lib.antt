@@ -1,4 +1,5 @@
 -- Laws of the definitions of the crate `rules`.
+pub mod FaultTable
 pub mod Lists
 pub mod Chain
 pub mod Walk

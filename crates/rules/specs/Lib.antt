@@ -24,10 +24,9 @@ pub mod Answer
 -- "Replay"
 pub mod Replay
 pub mod Script
--- laws: "Mornings at a limit", the table of faults, the four tests
+-- laws: "Mornings at a limit", the four tests
 pub mod Computing
 pub mod Mornings
-pub mod FaultTable
 pub mod TestLaws
 -- laws: how a run ends, and what each number leaves
 pub mod Bools
