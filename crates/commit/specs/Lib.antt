@@ -1,3 +1,6 @@
+-- the storing half
+pub mod Plan
+-- the two halves joined
 pub mod Tries
 pub mod Planning
 pub mod Run

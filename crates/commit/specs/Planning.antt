@@ -25,11 +25,11 @@ use Rattle.asks.specs.Faults.{struckBy}
 use Rattle.steps.specs.Stops.{firstTrue, cleanGate, gateOf}
 use Rattle.steps.specs.Whole.{run-puts}
 use Rattle.asks.specs.Finals.{finalsLaid}
-use Rattle.plan.specs.declared.run.Struck.{Struck}
-use Rattle.plan.specs.declared.run.Plan.{Plan}
-use Rattle.plan.specs.Parts.{putsAt}
-use Rattle.plan.specs.Planned.{planOf, struckOf, Planned}
-use Rattle.plan.specs.Held.{run-held}
+use Rattle.commit.specs.declared.plan.run.Struck.{Struck}
+use Rattle.commit.specs.declared.plan.run.Plan.{Plan}
+use Rattle.commit.specs.Plan.Parts.{putsAt}
+use Rattle.commit.specs.Plan.Planned.{planOf, struckOf, Planned}
+use Rattle.commit.specs.Plan.Held.{run-held}
 
 -- a lent array of its type's length holds what its list does
 pub whole {ℓ} : {A : Type ℓ} (n : ℕ) (z : A) {l m : List A} → l ≡ m → length m ≡ n → array n z l ≡ m

@@ -5,6 +5,7 @@ ghost use Rattle.rules.specs.Answer.{commit};
 
 mod answers;
 pub mod joined;
+mod plan;
 mod planning;
 mod run;
 

@@ -2,7 +2,7 @@
 use mathlib.Core.Path.{_∙_}
 use mathlib.Core.Bool.{false}
 use Rattle.types.specs.Limits.{places}
-use Rattle.plan.specs.Planned.{plan-is}
+use Rattle.commit.specs.Plan.Planned.{plan-is}
 use Rattle.commit.specs.Planning.{whole, marks-are, laid-at, laid-count}
 use borrow.Author.Needs.{needs}
 use Rattle.commit.proofs.planning.plan_for.Statement.{statement}
