@@ -37,16 +37,6 @@ module _ (w : Write) (l ws : List Write) (next : l ≡ w ∷ ws) where
   unfolding ofRow
   final-later e = rw (next, e)
 
--- no more than the writes
-pub finals-few : (l : List Write) → length (finalWrites l) ≤ length l
-unfolding ofRow
-finals-few [] = omega arith
-finals-few (w ∷ ws) =
-    let few = finals-few ws in
-    by (any (ofRow (w .row .0)) ws)
-    (λ e. rw e (omega arith))
-    (λ e. rw e (omega arith))
-
 -- what is left of a list from k on is w and others: w stands at k
 module _ {ℓ} {A : Type ℓ} (l : List A) (k : ℕ) (w : A) (ws : List A) (left : drop k l ≡ w ∷ ws) where
   pub left-more : k < length l

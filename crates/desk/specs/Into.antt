@@ -8,7 +8,7 @@ use lib.Seq.{take-length, take-append-add, take-append-le, drop-append-add, drop
 use borrow.Author.Tests.{le-leb, lt-leb}
 use Rattle.rules.specs.Script.{Bytes, replayText}
 use Rattle.desk.specs.declared.feed.Fed.{Fed}
-use Rattle.desk.specs.Feed.{Reading, answerRoom, fed, ended, first, reading, Feeds, endedIn, Finishes}
+use Rattle.desk.specs.Feed.{Reading, answerRoom, fed, first, reading, Feeds, endedIn, Finishes}
 use Rattle.desk.specs.Put.{alike-on}
 use Rattle.desk.specs.Room.{roomFor, answersIn, Replayed}
 use Rattle.desk.specs.RoomLaws.{fed-short, feeds-taken, whole}

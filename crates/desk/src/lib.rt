@@ -1,4 +1,4 @@
-// The replay of document 01: a script fed in parts of any size.
+// The replay of document 01: one line on the store (turn), a script fed in parts of any size (feed), a script in one buffer for callers in Rust or C (binding).
 
 mod answer;
 pub mod binding;

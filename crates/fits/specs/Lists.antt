@@ -1,6 +1,6 @@
 -- Tests over lists in words: of each place, and of each two places.
 use mathlib.Core.Path.{_≡_, refl}
-use mathlib.Core.Bool.{Bool, true, _&&_}
+use mathlib.Core.Bool.{Bool, true}
 use mathlib.Core.List.{List, [], _∷_}
 use mathlib.Core.Logic.{_↔_}
 use Prim.Native.Nat.{ℕ, zero, suc, _≤_, _<_}
@@ -10,7 +10,7 @@ use lib.Dec.{leb}
 use borrow.Author.Tests.{leb-true, le-leb}
 use Rattle.rules.specs.Lists.{all, nonFalling}
 use Rattle.rules.specs.Bools.{and-true, and-both}
-use Rattle.laws.specs.Lists.{all-at, at-all}
+use Rattle.laws.specs.Lists.{all-at, at-all, pairs}
 
 module _ {ℓ} {A : Type ℓ} (z : A) where
   -- a test of all, in words at each place
@@ -20,11 +20,6 @@ module _ {ℓ} {A : Type ℓ} (z : A) where
     (λ t i lt. h (getD l i z) .0 (all-at f l t i z lt)),
     (λ t. at-all f l z (λ i lt. h (getD l i z) .1 (t i lt))),
   )
-
-  -- the test g of each element and each later one
-  abbrev pub pairs : (A → A → Bool) → List A → Bool
-  pairs g [] = true
-  pairs g (a ∷ l) = all (λ b. g a b) l && pairs g l
 
   -- in words at each two places
   pub each-pair : (g : A → A → Bool) (P : A → A → Type 0) → ((a b : A) → (g a b ≡ true) ↔ P a b) → (l : List A)

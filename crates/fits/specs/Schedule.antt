@@ -1,29 +1,23 @@
 -- "A schedule is unfit with two faults at one step, a letter the step lacks, or k nonzero outside Fk", in words.
 use mathlib.Core.Path.{_≡_, refl}
-use mathlib.Core.Bool.{Bool, true, not, _&&_}
+use mathlib.Core.Bool.{Bool, true, not}
 use mathlib.Core.List.{List, [], _∷_}
 use mathlib.Core.Logic.{_↔_, _≢_, _⊎_}
 use Prim.Native.Nat.{ℕ, _<_}
 use lib.ListN.{length, getD}
 use lib.Dec.{eqb}
-use borrow.Author.Tests.{eqb-true, eq-eqb, eqb-false, ne-eqb, not-true}
+use borrow.Author.Tests.{eqb-true, eq-eqb}
 use Rattle.types.specs.Zero.{noFault}
 use Rattle.rules.specs.Lists.{memb}
 use Rattle.rules.specs.Types.{Fault, Schedule}
 use Rattle.rules.specs.Faults.{F, Allowed, may, table, allowed, stepsApart, faultsOf, scheduleFit}
-use Rattle.rules.specs.Bools.{and-true, and-both}
-use Rattle.rules.specs.TestLaws.{either}
-use Rattle.fits.specs.Lists.{each-place, pairs, each-pair}
+use Rattle.rules.specs.TestLaws.{either, both, differ}
+use Rattle.laws.specs.Lists.{pairs}
+use Rattle.fits.specs.Lists.{each-place, each-pair}
 
--- equality, difference and conjunction of tests, in words
+-- a test of equality, and a test itself, in words
 pub same-number : (m n : ℕ) → (eqb m n ≡ true) ↔ (m ≡ n)
 same-number m n = (eqb-true m n, eq-eqb m n)
-
-pub other-number : (m n : ℕ) → (not (eqb m n) ≡ true) ↔ (m ≢ n)
-other-number m n = (λ t. eqb-false m n (not-true (eqb m n) t), λ d. rw (ne-eqb m n d))
-
-pub and-say : {P Q : Type 0} (a b : Bool) → (a ≡ true) ↔ P → (b ≡ true) ↔ Q → ((a && b) ≡ true) ↔ (P × Q)
-and-say a b p q = (λ t. let h = and-true a b t in (p .0 (h .0), q .0 (h .1)), λ t. and-both a b (p .1 (t .0)) (q .1 (t .1)))
 
 pub itself : (b : Bool) → (b ≡ true) ↔ (b ≡ true)
 itself b = (λ t. t, λ t. t)
@@ -38,9 +32,9 @@ allows : (f : Fault) → (allowed f ≡ true) ↔ Allows f
 unfolding allowed
 allows f =
     let a = getD table (f .step) (may []) in
-    and-say _ _ (itself (memb (f .letter) (a .letters))) (either _ _ (same-number (f .k) 0) (and-say _ _ (itself (a .counted)) (same-number (f .letter) F)))
+    both _ _ (itself (memb (f .letter) (a .letters))) (either _ _ (same-number (f .k) 0) (both _ _ (itself (a .counted)) (same-number (f .letter) F)))
 
-apart-pairs : (fs : List Fault) → stepsApart fs ≡ pairs noFault (λ f g. not (eqb (g .step) (f .step))) fs
+apart-pairs : (fs : List Fault) → stepsApart fs ≡ pairs (λ f g. not (eqb (g .step) (f .step))) fs
 apart-pairs [] = refl
 apart-pairs (f ∷ fs) = rw (apart-pairs fs)
 
@@ -52,5 +46,5 @@ unfolding scheduleFit
 schedule-says c =
     let fs = faultsOf c in
     rw (apart-pairs fs)
-    (and-say _ _ (each-place noFault allowed Allows allows fs)
-    (each-pair noFault (λ f g. not (eqb (g .step) (f .step))) (λ f g. g .step ≢ f .step) (λ f g. other-number (g .step) (f .step)) fs))
+    (both _ _ (each-place noFault allowed Allows allows fs)
+    (each-pair noFault (λ f g. not (eqb (g .step) (f .step))) (λ f g. g .step ≢ f .step) (λ f g. differ (g .step) (f .step)) fs))

@@ -15,12 +15,13 @@ use Rattle.rules.specs.Transaction.{writesOf, readsOf, indexReadsOf, savepoints
 use Rattle.rules.specs.Chains.{walk, on}
 use Rattle.rules.specs.Fit.{countsFit, readFit, writesApart, stripesApart, fit}
 use Rattle.rules.specs.Bools.{clash, by, every-cons, cons-every, every-none}
-use Rattle.rules.specs.TestLaws.{either}
+use Rattle.rules.specs.TestLaws.{either, both, differ}
+use Rattle.laws.specs.Lists.{pairs}
 use Rattle.laws.specs.Sized.{Sized}
 use Rattle.laws.specs.Chained.{Chained}
 use Rattle.heart.specs.Meaning.{Mends, Off, marks}
-use Rattle.fits.specs.Lists.{each-place, pairs, each-pair, not-falling}
-use Rattle.fits.specs.Schedule.{same-number, other-number, and-say}
+use Rattle.fits.specs.Lists.{each-place, each-pair, not-falling}
+use Rattle.fits.specs.Schedule.{same-number}
 
 at-most : (m n : ℕ) → (leb m n ≡ true) ↔ (m ≤ n)
 at-most m n = (leb-true m n, le-leb m n)
@@ -66,9 +67,9 @@ counts-say : (x : Tx) → (countsFit x ≡ true) ↔ Counts x
 unfolding countsFit
 counts-say x =
     more _ _ (at-most _ _) (more _ _ (at-most _ _) (more _ _ (at-most _ _) (more _ _ (at-most _ _) (more _ _ (at-most _ _)
-    (more _ _ (each-place noWrite _ NoWrite (λ w. and-say _ _ (same-number _ _) (and-say _ _ (same-number _ _) (same-number _ _))) (drop (x .«write_count») (x .writes)))
-    (more _ _ (each-place noRead _ NoRead (λ r. and-say _ _ (same-number _ _) (and-say _ _ (same-number _ _) (same-number _ _))) (drop (x .«read_count») (x .reads)))
-    (more _ _ (each-place noIndexRead _ NoIndexRead (λ r. and-say _ _ (same-number _ _) (same-number _ _)) (drop (x .«index_read_count») (x .«index_reads»)))
+    (more _ _ (each-place noWrite _ NoWrite (λ w. both _ _ (same-number _ _) (both _ _ (same-number _ _) (same-number _ _))) (drop (x .«write_count») (x .writes)))
+    (more _ _ (each-place noRead _ NoRead (λ r. both _ _ (same-number _ _) (both _ _ (same-number _ _) (same-number _ _))) (drop (x .«read_count») (x .reads)))
+    (more _ _ (each-place noIndexRead _ NoIndexRead (λ r. both _ _ (same-number _ _) (same-number _ _)) (drop (x .«index_read_count») (x .«index_reads»)))
     (more _ _ (each-place 0 isZero (λ t. t ≡ 0) (λ t. same-number t 0) (drop (x .«snapshot_count») (x .snapshot)))
     (last _ (each-place 0 isZero (λ n. n ≡ 0) (λ n. same-number n 0) (drop (x .«savepoint_count») (x .savepoints))))))))))))
 
@@ -94,7 +95,7 @@ WritesApart w v = (v .new .0 ≢ w .new .0) × ((v .row .0 ≢ w .row .0) ⊎ (v
 abbrev apart : Write → Write → Bool
 apart w v = not (eqb (v .new .0) (w .new .0)) && (not (eqb (v .row .0) (w .row .0)) || eqb (v .base .0) (w .base .0))
 
-writes-pairs : (ws : List Write) → writesApart ws ≡ pairs noWrite apart ws
+writes-pairs : (ws : List Write) → writesApart ws ≡ pairs apart ws
 writes-pairs [] = refl
 writes-pairs (w ∷ ws) = rw (writes-pairs ws)
 
@@ -105,9 +106,9 @@ shuffle true true c d = refl
 shuffle true false true d = refl
 shuffle true false false d = refl
 
-stripes-pairs : (l : List IndexRead) → stripesApart l ≡ (all (λ r. ltb (r .stripe) stripes) l && pairs noIndexRead (λ r q. not (eqb (q .stripe) (r .stripe))) l)
+stripes-pairs : (l : List IndexRead) → stripesApart l ≡ (all (λ r. ltb (r .stripe) stripes) l && pairs (λ r q. not (eqb (q .stripe) (r .stripe))) l)
 stripes-pairs [] = refl
-stripes-pairs (r ∷ l) = rw (stripes-pairs l) (shuffle (ltb (r .stripe) stripes) (all (λ q. not (eqb (q .stripe) (r .stripe))) l) (all (λ q. ltb (q .stripe) stripes) l) (pairs noIndexRead (λ p q. not (eqb (q .stripe) (p .stripe))) l))
+stripes-pairs (r ∷ l) = rw (stripes-pairs l) (shuffle (ltb (r .stripe) stripes) (all (λ q. not (eqb (q .stripe) (r .stripe))) l) (all (λ q. ltb (q .stripe) stripes) l) (pairs (λ p q. not (eqb (q .stripe) (p .stripe))) l))
 
 -- on no chain, by the walk's marks
 off-say : (S : Store) (L : ℕ → List ℕ) → Sized S → Mends S L → (p : ℕ) → (not (on (walk (S .heads) (S .next) .seen) p) ≡ true) ↔ Off (S .heads) L p
@@ -141,9 +142,9 @@ fit-says S L z M x =
     (more _ _ (each-place noRead readFit ReadFits (λ r. more _ _ (below _ _) (more _ _ (at-most _ _) (last _ (at-most _ _)))) (readsOf x))
     (more _ _ (each-place noWrite _ (WriteFits S L (x .txid .0)) (λ w.
     more _ _ (below _ _) (more _ _ (at-most _ _) (more _ _ (at-most _ _) (more _ _ (below _ _) (more _ _ (off-say S L z M (w .new .0)) (more _ _ (same-number _ _) (last _ (same-number _ _)))))))) (writesOf x))
-    (more _ _ (each-pair noWrite apart WritesApart (λ w v. and-say _ _ (other-number _ _) (either _ _ (other-number _ _) (same-number _ _))) (writesOf x))
-    (more _ _ (and-say _ _ (each-place noIndexRead _ (λ r. r .stripe < stripes) (λ r. below _ _) (indexReadsOf x))
-    (each-pair noIndexRead _ (λ r q. q .stripe ≢ r .stripe) (λ r q. other-number _ _) (indexReadsOf x)))
+    (more _ _ (each-pair noWrite apart WritesApart (λ w v. both _ _ (differ _ _) (either _ _ (differ _ _) (same-number _ _))) (writesOf x))
+    (more _ _ (both _ _ (each-place noIndexRead _ (λ r. r .stripe < stripes) (λ r. below _ _) (indexReadsOf x))
+    (each-pair noIndexRead _ (λ r q. q .stripe ≢ r .stripe) (λ r q. differ _ _) (indexReadsOf x)))
     (more _ _ (not-falling 0 (savepointsOf x))
     (more _ _ (each-place 0 _ (λ n. n ≤ x .«write_count») (λ n. at-most _ _) (savepointsOf x))
     (more _ _ (at-most _ _) (last _ (at-most _ _))))))))))

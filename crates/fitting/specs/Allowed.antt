@@ -1,8 +1,8 @@
 -- The fit schedule: the masks of the constant table say what the definitions' table says; steps apart.
-use mathlib.Core.Path.{_≡_, refl, ap, _∙_}
-use mathlib.Core.Bool.{Bool, true, false, not, _&&_, _||_, and-false as and-no, and-true as and-yes}
+use mathlib.Core.Path.{_≡_, refl, ap}
+use mathlib.Core.Bool.{Bool, true, false, not, _&&_, and-false as and-no, and-true as and-yes}
 use mathlib.Core.List.{List, [], _∷_}
-use Prim.Native.Nat.{ℕ, _/_, _%_, _<_, _≤_}
+use Prim.Native.Nat.{ℕ, _/_, _%_, _<_}
 use native.Mathlib.Omega.{arith}
 use borrow.Author.Tests.{eq-eqb, ne-eqb}
 use lib.ListN.{getD}
@@ -11,8 +11,8 @@ use Rattle.rules.specs.Types.{Fault}
 use Rattle.rules.specs.Lists.{all, memb}
 use Rattle.rules.specs.Bools.{by}
 use Rattle.rules.specs.Faults.{F, B, P, X, Q, may, table, masks, bitOf, allowed, stepsApart}
+use Rattle.laws.specs.Lists.{pairs}
 use Rattle.laws.specs.FaultTable.{letterEnd, mask-says, mask-counts}
-use Rattle.fitting.specs.Apart.{apart}
 
 -- a letter's bit is a number to divide by
 pub bit-positive : (c : ℕ) → 0 < bitOf c
@@ -61,7 +61,7 @@ module _ (n c k m b : ℕ) (h : c < letterEnd) (d : m ≡ getD masks n 0) (e : b
 abbrev pub stepsDiffer : Fault → Fault → Bool
 stepsDiffer f g = not (eqb (g .step) (f .step))
 
-pub steps-apart : (l : List Fault) → stepsApart l ≡ apart stepsDiffer l
+pub steps-apart : (l : List Fault) → stepsApart l ≡ pairs stepsDiffer l
 steps-apart [] = refl
 steps-apart (f ∷ l) = ap (λ b. all (stepsDiffer f) l && b) (steps-apart l)
 

@@ -1,21 +1,18 @@
 -- Lists of which each member differs from all later ones.
 use mathlib.Core.Path.{_≡_}
-use mathlib.Core.Bool.{Bool, true, false, _&&_}
-use mathlib.Core.List.{List, [], _∷_}
+use mathlib.Core.Bool.{Bool, true, false}
+use mathlib.Core.List.{List, []}
 use Prim.Native.Nat.{ℕ, _+_, _<_, _≤_}
 use lib.ListN.{getD, take, drop}
 use Rattle.rules.specs.Lists.{all}
+use Rattle.laws.specs.Lists.{pairs}
 use Rattle.view.specs.Lent.{array}
 use Rattle.view.specs.Counted.{first-cons, first-end}
 
 module _ {ℓ} {A : Type ℓ} where
-  abbrev pub apart : (A → A → Bool) → List A → Bool
-  apart d [] = true
-  apart d (x ∷ l) = all (d x) l && apart d l
-
   -- the first k of an array, from i on
   unfoldable pub apartLeft : (A → A → Bool) → ℕ → ℕ → A → List A → ℕ → Bool
-  apartLeft d k n z l i = apart d (drop i (take k (array n z l)))
+  apartLeft d k n z l i = pairs d (drop i (take k (array n z l)))
 
   module _ (d : A → A → Bool) (k n : ℕ) (z : A) (l : List A) (i : ℕ) (w : Bool) (left : apartLeft d k n z l i ≡ w) where
     -- the one at i differs from the later ones, or not, or none is left

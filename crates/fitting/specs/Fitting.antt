@@ -14,11 +14,11 @@ use Rattle.rules.specs.Lists.{all}
 use Rattle.rules.specs.Store.{used}
 use Rattle.rules.specs.Chains.{on}
 use Rattle.rules.specs.Fit.{readFit, writeFit, writesApart, stripesApart}
+use Rattle.laws.specs.Lists.{pairs}
 use Rattle.view.specs.Lent.{array, array-at, atPlaces}
 use Rattle.view.specs.Counted.{first-cons, first-end}
 use Rattle.view.specs.Every.{every-fails, each-every, every-last}
 use Rattle.view.specs.Facts.{nonzero-yes, nonzero-no}
-use Rattle.fitting.specs.Apart.{apart}
 
 -- an unused place; shut, so that a law finds its record
 unfoldable pub zeroWrite : Write → Bool
@@ -176,7 +176,7 @@ module _ (w v : Write) where
   unfolding writesDiffer
   same-base e n = rw (ne-eqb (v .new .0) (w .new .0) e, eq-eqb (v .base .0) (w .base .0) n, or-yes)
 
-pub writes-apart : (l : List Write) → writesApart l ≡ apart writesDiffer l
+pub writes-apart : (l : List Write) → writesApart l ≡ pairs writesDiffer l
 unfolding writesDiffer
 writes-apart [] = refl
 writes-apart (w ∷ l) = ap (λ b. all (writesDiffer w) l && b) (writes-apart l)

@@ -12,7 +12,7 @@ use Rattle.rules.specs.Lists.{memb, without, pad}
 use Rattle.rules.specs.Store.{activeTxids}
 use Rattle.rules.specs.Admitted.{finished}
 use Rattle.rules.specs.Bools.{by, clash, and-false, or-true, or-neither, mem-there}
-use Rattle.index.specs.Rising.{rising-from, mem-without, rising-without, without-length}
+use Rattle.laws.specs.Rising.{rising-from, mem-without, rising-without, without-length}
 use Rattle.index.specs.Packed.{before-pad}
 use Rattle.heart.specs.Forms.{is-rising, rising-is}
 use Rattle.heart.specs.Meaning.{ActiveForm}
@@ -24,7 +24,7 @@ none-in u [] n h = refl
 none-in u (x ∷ l) n h = or-neither (eqb u x) (memb u l) (ne-eqb u x (λ e. n (e ∙ h zero))) (none-in u l n (λ i. h (suc i)))
 
 -- the zeros after the active txids hold none
-in-array : (u : ℕ) (act : List ℕ) → (u ≡ 0 → ⊥) → ((i : ℕ) → length (activeTxids act) ≤ i → getD act i 0 ≡ 0) → memb u act ≡ memb u (activeTxids act)
+pub in-array : (u : ℕ) (act : List ℕ) → (u ≡ 0 → ⊥) → ((i : ℕ) → length (activeTxids act) ≤ i → getD act i 0 ≡ 0) → memb u act ≡ memb u (activeTxids act)
 in-array u [] n h = refl
 in-array u (x ∷ l) n h = go (in-array u l n) (eqb x 0) refl h
   where
@@ -56,9 +56,9 @@ abbrev pub dropped : List ℕ → ℕ → List ℕ
 dropped act t = pad activeLimit 0 (without t (activeTxids act))
 
 -- txids with the same standing in two lists are finished in both or in neither
-alike : (a b : List ℕ) (d u : ℕ) → ((u ≡ 0 → ⊥) → memb u a ≡ memb u b) → finished a d u ≡ finished b d u
+pub finished-same : (a b : List ℕ) (d u : ℕ) → ((u ≡ 0 → ⊥) → memb u a ≡ memb u b) → finished a d u ≡ finished b d u
 unfolding finished
-alike a b d u h = by (eqb u 0) (λ e. rw e) (λ e. rw (e, h (eqb-false u 0 e)))
+finished-same a b d u h = by (eqb u 0) (λ e. rw e) (λ e. rw (e, h (eqb-false u 0 e)))
 
 -- 0, no txid, counts as finished
 pub zero-finished : (act : List ℕ) (d : ℕ) → finished act d 0 ≡ true
@@ -96,7 +96,7 @@ module _ (act : List ℕ) (clock : ℕ) (A : ActiveForm act clock) (long : lengt
 
   -- others stand as they stood
   pub drop-other : (d u : ℕ) → (u ≡ t → ⊥) → finished (dropped act t) d u ≡ finished act d u
-  drop-other d u n = alike (dropped act t) act d u (λ z. in-dropped u z ∙ rw (ne-eqb u t n) (sym (listed u z)))
+  drop-other d u n = finished-same (dropped act t) act d u (λ z. in-dropped u z ∙ rw (ne-eqb u t n) (sym (listed u z)))
 
   -- t is finished now, if it isn't doomed
   pub drop-this : (d : ℕ) → (t ≡ d → ⊥) → finished (dropped act t) d t ≡ true

@@ -17,7 +17,7 @@ use Rattle.rules.specs.Commit.{End, poison, fails, count, finish, abortOrPoison
 use Rattle.rules.specs.Bools.{by, and-true}
 use Rattle.rules.specs.Only.{only, only-take, only-if, is-not}
 use Rattle.rules.specs.Outcome.{Passed, guardsTaken, afterInsert, afterRemove, afterPublish, afterRecycle, afterFinish, afterStamp, aborting, rollingBack, worse, undoing, abortingLate, Spoil, unremoved, unpublished, unrecycled, unfinished, Outcome, done, stays, aborts, uninserted, uncalled, spoils, unstamped, outcome}
-use Rattle.index.specs.All.{all-then, all-append, all-take}
+use Rattle.laws.specs.All.{all-then, all-append, all-take}
 use Rattle.index.specs.Kinds.{taken-kinds, release-kinds, insertions-kind, removals-kind, publication-kinds, recycling-kind, stamping-kind, poison-kind, abort-kinds, rollback-kinds}
 use Rattle.laws.specs.Lists.{all-mem}
 use Rattle.heart.specs.Calm.{calm}

@@ -17,7 +17,7 @@ use Rattle.rules.specs.Recovery.{recovered, recover}
 use Rattle.rules.specs.Bools.{by}
 use Rattle.rules.specs.Only.{only-take}
 use Rattle.rules.specs.Rows.{Admitted, admitted}
-use Rattle.index.specs.All.{all-get}
+use Rattle.laws.specs.All.{all-get}
 use Rattle.laws.specs.Lists.{at-all}
 use Rattle.heart.specs.Counted.{counted, run-counted, keys-kept}
 use Rattle.heart.specs.Recovery.{Keyed}

@@ -2,7 +2,7 @@
 -- stands has dropped its txid, what it wrote.
 use mathlib.Core.Path.{_≡_}
 use mathlib.Core.Bool.{Bool, true, false, not, cond, _&&_}
-use mathlib.Core.Logic.{_⊎_, ⊎-elim}
+use mathlib.Core.Logic.{⊎-elim}
 use Prim.Native.Nat.{ℕ}
 use lib.ListN.{take}
 use Rattle.rules.specs.Lists.{memb}

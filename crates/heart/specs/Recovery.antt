@@ -3,7 +3,7 @@ use mathlib.Core.Path.{_≡_, refl, sym, ap, _∙_}
 use mathlib.Core.Bool.{Bool, true, false}
 use mathlib.Core.List.{List, [], _∷_, map}
 use mathlib.Core.Logic.{inl}
-use Prim.Native.Nat.{ℕ, zero, suc, _<_}
+use Prim.Native.Nat.{ℕ, _<_}
 use native.Mathlib.Omega.{arith}
 use lib.ListN.{length, getD, replicate, length-map, length-replicate, List·getD-map}
 use lib.Dec.{eqb, ltb}
@@ -15,11 +15,12 @@ use Rattle.rules.specs.Store.{used, valueAt, postingsOf, activeTxids}
 use Rattle.rules.specs.Chains.{walk, on}
 use Rattle.rules.specs.Admitted.{finished, headPostings, repairable, resting}
 use Rattle.rules.specs.Recovery.{trimHead, clear, recovered}
-use Rattle.rules.specs.Bools.{by, clash, iff, or-true, mem-here, mem-there}
+use Rattle.rules.specs.Bools.{by, clash, iff, mem-here, mem-there}
 use Rattle.index.specs.Packed.{pad-length, take-pad}
-use Rattle.index.specs.Heads.{heads-length}
+use Rattle.laws.specs.Heads.{heads-length}
 use Rattle.index.specs.Kept.{heads-same}
 use Rattle.index.specs.Rebuilt.{recovered-indexed}
+use Rattle.laws.specs.Lists.{at-mem, mem-at}
 use Rattle.laws.specs.Chain.{IsChain, chain-below, chain-once, chain-head}
 use Rattle.laws.specs.Chained.{Chains, Chained, walk-complete}
 use Rattle.laws.specs.Check.{Tail, plain}
@@ -53,17 +54,6 @@ pub record Recovered (S D : Store) : Type 0 where
 all-finished : (u : ℕ) → finished (replicate activeLimit 0) 0 u ≡ true
 unfolding finished
 all-finished u = by (eqb u 0) (λ e. rw e) (λ e. rw e)
-
-at-mem : (l : List ℕ) (q : ℕ) → q < length l → memb (getD l q 0) l ≡ true
-at-mem [] q lt = absurd (omega arith)
-at-mem (x ∷ l) zero lt = mem-here x l
-at-mem (x ∷ l) (suc q) lt = mem-there (getD l q 0) x l (at-mem l q (omega arith))
-
-mem-at : (l : List ℕ) (y : ℕ) → memb y l ≡ true → (q : ℕ) × (q < length l) × (getD l q 0 ≡ y)
-mem-at [] y m = clash {b = false} m refl
-mem-at (x ∷ l) y m = or-true (eqb y x) (memb y l) m
-    (λ e. (zero, omega arith, sym (eqb-true y x e)))
-    (λ e. let k = mem-at l y e in (suc (k .0), omega (arith, k .1), k .2))
 
 module _ (S : Store) (L : ℕ → List ℕ) (z : Sized S) (M : Mends S L) where
   abbrev f : ℕ → Bool

@@ -19,7 +19,7 @@ use Rattle.rules.specs.Puts.{ownSlots}
 use Rattle.rules.specs.Tests.{writeBaseConflict}
 use Rattle.rules.specs.Changes.{recycled}
 use Rattle.rules.specs.Bools.{by, clash, and-true, or-false, or-left, or-right}
-use Rattle.index.specs.Rising.{rising-from}
+use Rattle.laws.specs.Rising.{rising-from}
 use Rattle.laws.specs.Lists.{Each, mem-those, mem-nonzero}
 use Rattle.laws.specs.Chained.{Chained}
 use Rattle.laws.specs.Check.{Tail}

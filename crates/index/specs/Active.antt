@@ -7,7 +7,7 @@ use lib.ListN.{length}
 use Rattle.types.specs.Limits.{activeLimit}
 use Rattle.rules.specs.Lists.{rising, pad}
 use Rattle.rules.specs.Store.{activeTxids}
-use Rattle.index.specs.Rising.{rising-past}
+use Rattle.laws.specs.Rising.{rising-past}
 use Rattle.index.specs.Packed.{before-pad}
 
 -- "Active txids: at most 16, rising, zero after them": from 1 on, so that none is 0

@@ -22,7 +22,7 @@ use Rattle.rules.specs.Gates.{Gate, callEnd, leaving, part}
 use Rattle.index.specs.Table.{Row}
 use Rattle.index.specs.Numbers.{poisoned, aborted, with, left, some, whole, gone, called}
 use Rattle.laws.specs.Sized.{Sized}
-use Rattle.index.specs.Bools.{or-none, or-comm}
+use Rattle.laws.specs.Bools.{or-none, or-comm}
 use Rattle.index.specs.Kinds.{insert-kind, remove-kind, insertions-kind, cleaning-kinds, rollback-kinds}
 use Rattle.index.specs.Undone.{Ready, take-map, undone-but}
 use Rattle.index.specs.Aside.{postingKinds, between-guards, poison-first}

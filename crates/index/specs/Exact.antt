@@ -18,8 +18,9 @@ use Rattle.rules.specs.Puts.{Put, kInsert, kRemove, kXmax, kHead, putInsert, pu
 use Rattle.rules.specs.Changes.{changes, destinations, sources, publishOne, insertions, removals, publication}
 use Rattle.rules.specs.Only.{only, kept, is-not, key-kept, has-kept}
 use Rattle.rules.specs.Guards.{applyAll-append}
-use Rattle.index.specs.Bools.{or-none}
-use Rattle.index.specs.Heads.{same-value, value-same, told-by-rows, heads-rising, heads-length, head-member}
+use Rattle.laws.specs.Bools.{or-none}
+use Rattle.laws.specs.Heads.{heads-rising, heads-length}
+use Rattle.index.specs.Heads.{same-value, value-same, told-by-rows, head-member}
 use Rattle.index.specs.Resting.{Exact, in-form, exact}
 use Rattle.index.specs.Posted.{posted, posted-of, posted-own, intoAll, withoutAll, mem-intoAll, mem-withoutAll, rising-intoAll, rising-withoutAll, intoAll-length, form-rising, inserted, removed}
 use Rattle.index.specs.Written.{pick, pick-map, changed, mem-side}

@@ -5,7 +5,7 @@ use mathlib.Core.List.{List, [], _∷_, _++_, map}
 use Prim.Native.Nat.{ℕ, zero, suc, _+_, _≤_}
 use native.Mathlib.Omega.{arith}
 use lib.ListN.{length, take, drop, length-take}
-use lib.Dec.{eqb, ltb}
+use lib.Dec.{ltb}
 use borrow.Author.Tests.{leb-true, le-leb}
 use Rattle.types.specs.Limits.{postingLimit, keyEnd}
 use Rattle.rules.specs.Types.{Store}
@@ -14,7 +14,7 @@ use Rattle.rules.specs.Lists.{all, memb, rising, into, without, allZero, pad}
 use Rattle.rules.specs.Store.{posting, postingsOf, postingsInForm}
 use Rattle.rules.specs.Puts.{Put, kInsert, kRemove, is, putInsert, apply, applyAll}
 use Rattle.rules.specs.Only.{only, is-not}
-use Rattle.index.specs.Rising.{rising-into, rising-without, into-length, without-length}
+use Rattle.laws.specs.Rising.{rising-into, rising-without, into-length, without-length, all-into, all-without}
 use Rattle.index.specs.Posted.{posted, posted-of}
 
 -- a posting whose key has 32 bits
@@ -49,23 +49,6 @@ unfolding postingsInForm postingsOf
 form-short S h =
     let count : S .«posting_count» ≤ postingLimit = leb-true (S .«posting_count») postingLimit (every-cons _ _ h .0) in
     omega (arith, length-take (S .«posting_count») (S .postings))
-
--- a test of all members, after one more and one less
-pub all-into : (f : ℕ → Bool) (c : ℕ) (l : List ℕ) → f c ≡ true → all f l ≡ true → all f (into c l) ≡ true
-all-into f c [] h k = rw h
-all-into f c (y ∷ l) h k =
-    let a = and-true (f y) (all f l) k in
-    by (ltb c y)
-    (λ e. rw (e, h) k)
-    (λ e. by (eqb c y)
-    (λ q. rw (e, q) k)
-    (λ q. rw (e, q, a .0) (all-into f c l h (a .1))))
-
-all-without : (f : ℕ → Bool) (c : ℕ) (l : List ℕ) → all f l ≡ true → all f (without c l) ≡ true
-all-without f c [] k = refl
-all-without f c (y ∷ l) k =
-    let a = and-true (f y) (all f l) k in
-    by (eqb c y) (λ e. rw e (all-without f c l (a .1))) (λ e. rw (e, a .0) (all-without f c l (a .1)))
 
 -- the postings that puts insert
 abbrev pub inserts : List Put → List ℕ

@@ -23,7 +23,7 @@ use Rattle.rules.specs.Only.{only, only-take, only-if}
 use Rattle.rules.specs.Outcome.{guardsTaken, afterInsert, afterRemove, afterPublish, afterRecycle, afterFinish, Passed, Taken, neither, index, both, worse, undoing, Spoil, unremoved, unpublished, unrecycled, unfinished, Outcome, done, stays, aborts, uninserted, uncalled, spoils, unstamped, outcome}
 use Rattle.rules.specs.Rows.{Admitted, every-commit}
 use Rattle.laws.specs.Sized.{Sized}
-use Rattle.index.specs.All.{all-get, all-take}
+use Rattle.laws.specs.All.{all-get, all-take}
 use Rattle.index.specs.Pair.{below-key}
 use Rattle.index.specs.Resting.{in-form}
 use Rattle.index.specs.Written.{changed, side-all}

@@ -14,8 +14,8 @@ use Rattle.rules.specs.Bools.{by, clash, and-true}
 use Rattle.rules.specs.Lists.{memb, rising}
 use Rattle.rules.specs.Store.{posting, keyOf, rowOf, valueAt, sameValue}
 use Rattle.rules.specs.Admitted.{headPostings}
-use Rattle.index.specs.Bools.{or-none}
-use Rattle.index.specs.Rising.{mem-into, rising-into, rising-ext, into-length}
+use Rattle.laws.specs.Bools.{or-none}
+use Rattle.laws.specs.Rising.{mem-into, rising-ext}
 use Rattle.index.specs.Pair.{posting-of, row-small, posting-test}
 
 -- `sameValue` is equality
@@ -36,20 +36,6 @@ told-by-rows a b ra rb h =
     rising-ext 0 0 a b ra rb (λ c. rw (posting-of c) at (h (keyOf c) (rowOf c) (row-small c)))
 
 module _ (key : List ℕ) (has : List Bool) where
-  -- "rising"
-  pub heads-rising : (r : ℕ) (hs : List ℕ) → rising 0 (headPostings key has r hs) ≡ true
-  heads-rising r [] = refl
-  heads-rising r (h ∷ hs) = by (getD has h false)
-      (λ e. rw e (rising-into 0 (posting (getD key h 0) r) (headPostings key has (suc r) hs) (omega arith) (heads-rising (suc r) hs)))
-      (λ e. rw e (heads-rising (suc r) hs))
-
-  -- "at most 128" has room: no more postings than heads
-  pub heads-length : (r : ℕ) (hs : List ℕ) → length (headPostings key has r hs) ≤ length hs
-  heads-length r [] = omega arith
-  heads-length r (h ∷ hs) = by (getD has h false)
-      (λ e. rw e (omega (arith, into-length (posting (getD key h 0) r) (headPostings key has (suc r) hs), heads-length (suc r) hs)))
-      (λ e. rw e (omega (arith, heads-length (suc r) hs)))
-
   -- no posting of an earlier row
   earlier : (k q r : ℕ) (hs : List ℕ) → q < r → r + length hs ≤ rows → memb (posting k q) (headPostings key has r hs) ≡ false
   earlier k q r [] lt le = refl

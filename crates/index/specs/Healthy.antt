@@ -20,7 +20,7 @@ use Rattle.rules.specs.Guards.{applyAll-append}
 use Rattle.rules.specs.Outcome.{guardsTaken, afterInsert, afterFinish, aborting, rollingBack, worse, undoing, abortingLate, Taken, Passed, Spoil, unremoved, unpublished, unrecycled, unfinished, Outcome, done, stays, aborts, uninserted, uncalled, spoils, unstamped, outcome}
 use Rattle.rules.specs.Rows.{Admitted, row-2, row-3, whole, given-back, stay-not, abort-not, called-not, spoil-not}
 use Rattle.laws.specs.Sized.{Sized}
-use Rattle.index.specs.Bools.{or-assoc, or-swap}
+use Rattle.laws.specs.Bools.{or-assoc, or-swap}
 use Rattle.index.specs.Resting.{Exact, Settled, exact, undoomed, settled}
 use Rattle.index.specs.Kept.{exact-kept, exact-freed}
 use Rattle.index.specs.Spared.{head-not-own}

@@ -15,7 +15,7 @@ use Rattle.rules.specs.Only.{only, only-both, only-map, only-take, only-if}
 use Rattle.rules.specs.Outcome.{guardsTaken}
 use Rattle.laws.specs.Lists.{all-mem}
 use Rattle.laws.specs.Published.{publish-only}
-use Rattle.index.specs.All.{all-then}
+use Rattle.laws.specs.All.{all-then}
 
 module _ (ks : List ℕ) where
   -- one put for each number of a list

@@ -1,7 +1,4 @@
 -- Laws about lists and tests.
-pub mod Bools
-pub mod All
-pub mod Rising
 pub mod Packed
 pub mod Active
 -- What postings are, and those of the heads.

@@ -14,7 +14,7 @@ use Rattle.rules.specs.Lists.{memb, those}
 use Rattle.rules.specs.Store.{posting, keyOf, rowOf, valueAt, sameValue, postingsOf}
 use Rattle.rules.specs.Transaction.{writesOf}
 use Rattle.rules.specs.Calls.{candidates}
-use Rattle.index.specs.Rising.{mem-inOrder}
+use Rattle.laws.specs.Rising.{mem-inOrder}
 use Rattle.index.specs.Pair.{key-of-posting, row-of-posting, posting-of}
 use Rattle.index.specs.Resting.{Exact}
 use Rattle.index.specs.Heads.{head-member}

@@ -15,8 +15,8 @@ use Rattle.rules.specs.Lists.{memb, rising, into, without, isZero, pad}
 use Rattle.rules.specs.Store.{postingsOf, postingsInForm}
 use Rattle.rules.specs.Puts.{putInsert, putRemove, applyAll}
 use Rattle.rules.specs.Guards.{applyAll-append}
-use Rattle.index.specs.Bools.{or-none, or-assoc, or-comm, or-swap, not-either}
-use Rattle.index.specs.Rising.{mem-into, rising-into, mem-without, rising-without, rising-ext, into-length, without-length}
+use Rattle.laws.specs.Bools.{or-none, or-assoc, or-comm, or-swap, not-either}
+use Rattle.laws.specs.Rising.{mem-into, rising-into, mem-without, rising-without, rising-ext, into-length, without-length}
 use Rattle.index.specs.Packed.{take-pad, pad-take}
 
 -- the store with other postings

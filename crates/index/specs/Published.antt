@@ -12,7 +12,7 @@ use Rattle.rules.specs.Types.{Write}
 use Rattle.rules.specs.Bools.{by, and-true}
 use Rattle.rules.specs.Lists.{all, memb}
 use Rattle.laws.specs.Published.{newHeads}
-use Rattle.index.specs.Rising.{unique}
+use Rattle.laws.specs.Rising.{unique}
 use Rattle.index.specs.Written.{rowsOf, pick, pick-none}
 
 -- a written row's head is its write's new slot, another's the one it was

@@ -1,7 +1,7 @@
 -- "Numbers seen", the column "When": a number is answered for one of its reasons in that column, on every commit.
 use mathlib.Core.Path.{_≡_, refl, ap, _∙_}
 use mathlib.Core.Bool.{Bool, true, false, _&&_, _||_}
-use mathlib.Core.Logic.{_⊎_, ⊎-elim}
+use mathlib.Core.Logic.{⊎-elim}
 use Prim.Native.Nat.{ℕ}
 use lib.ListN.{getD}
 use Rattle.rules.specs.Types.{Store, Tx, Schedule, Cut}

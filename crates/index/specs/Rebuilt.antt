@@ -18,14 +18,15 @@ use Rattle.rules.specs.Recovery.{trimHead, recovered}
 use Rattle.laws.specs.Lists.{each-or}
 use Rattle.laws.specs.Sized.{Sized}
 use Rattle.laws.specs.Parts.{slots-parts}
-use Rattle.index.specs.All.{all-get}
+use Rattle.laws.specs.All.{all-get}
+use Rattle.laws.specs.Rising.{all-into}
 use Rattle.index.specs.Pair.{below-key}
-use Rattle.index.specs.Heads.{heads-rising, heads-length}
+use Rattle.laws.specs.Heads.{heads-rising, heads-length}
 use Rattle.index.specs.Resting.{Exact, Indexed}
 use Rattle.index.specs.Posted.{posted-of}
 use Rattle.index.specs.Spared.{head-seen}
 use Rattle.index.specs.Kept.{heads-same}
-use Rattle.index.specs.Form.{small, posted-form, all-into}
+use Rattle.index.specs.Form.{small, posted-form}
 
 -- what is marked stays; what is blank stays blank
 keep-marked : {A : Type 0} (z d : A) (m : List ℕ) (l : List A) (p : ℕ) → on m p ≡ true → getD (keep z m l) p d ≡ getD l p d

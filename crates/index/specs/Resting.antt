@@ -9,7 +9,7 @@ use Rattle.rules.specs.Lists.{same}
 use Rattle.rules.specs.Store.{postingsOf, postingsInForm}
 use Rattle.rules.specs.Admitted.{headPostings, resting}
 use Rattle.laws.specs.Parts.{Repairable, repairable-parts, resting-parts}
-use Rattle.index.specs.Rising.{same-equal, equal-same}
+use Rattle.laws.specs.Rising.{same-equal, equal-same}
 
 -- "the postings are exactly (key, row) of each head with a value"
 abbrev pub Exact : Store → Type 0

@@ -1,15 +1,14 @@
 -- Recycling and abort spare every head.
-use mathlib.Core.Path.{_≡_, refl, sym, _∙_}
+use mathlib.Core.Path.{_≡_, _∙_}
 use mathlib.Core.Bool.{true, false, not, _&&_}
 use mathlib.Core.List.{List, [], _∷_}
-use Prim.Native.Nat.{ℕ, zero, suc, _<_}
-use native.Mathlib.Omega.{arith}
+use Prim.Native.Nat.{ℕ, zero, suc}
 use lib.ListN.{length, getD, set}
 use lib.Dec.{eqb}
 use borrow.Author.Tests.{eqb-true, eqb-false, not-true}
 use Rattle.types.specs.Limits.{places}
 use Rattle.rules.specs.Types.{Store, Tx, Write}
-use Rattle.rules.specs.Bools.{by, clash, and-false, or-true, or-false, or-left, or-right}
+use Rattle.rules.specs.Bools.{by, and-false, or-true, or-false, or-left, or-right}
 use Rattle.rules.specs.Lists.{memb}
 use Rattle.rules.specs.Store.{used, usedSlots}
 use Rattle.rules.specs.Transaction.{finals}
@@ -17,7 +16,7 @@ use Rattle.rules.specs.Chains.{walk, on}
 use Rattle.rules.specs.Admitted.{resting}
 use Rattle.rules.specs.Puts.{ownSlots}
 use Rattle.rules.specs.Changes.{recycled}
-use Rattle.laws.specs.Lists.{mem-those, mem-nonzero}
+use Rattle.laws.specs.Lists.{mem-those, mem-nonzero, mem-at}
 use Rattle.laws.specs.Chain.{chain-head}
 use Rattle.laws.specs.Chained.{walk-sound}
 use Rattle.laws.specs.Sized.{Sized}
@@ -25,18 +24,11 @@ use Rattle.laws.specs.Parts.{slots-parts}
 use Rattle.laws.specs.Published.{newHeads, newPointers}
 use Rattle.index.specs.Resting.{mendable}
 
--- a member stands somewhere
-mem-place : (l : List ℕ) (h : ℕ) → memb h l ≡ true → (r : ℕ) × (r < length l) × (getD l r 0 ≡ h)
-mem-place [] h m = clash {b = false} m refl
-mem-place (y ∷ l) h m = or-true (eqb h y) (memb h l) m
-    (λ e. (0, omega arith, sym (eqb-true h y e)))
-    (λ e. let r = mem-place l h e in (suc (r .0), omega (arith, r .1), r .2))
-
 -- a head is on a chain, by the marks of a walk that ends
 pub head-seen : (heads next : List ℕ) (h : ℕ) → length next ≡ places → walk heads next .ok ≡ true → (h ≡ 0 → ⊥) → memb h heads ≡ true → on (walk heads next .seen) h ≡ true
 head-seen heads next h long ok n m =
     let c = walk-sound heads next long ok in
-    let r = mem-place heads h m in
+    let r = mem-at heads h m in
     c .1 .marked (r .0) h (r .1) (chain-head next h (c .0 (r .0)) (rw (r .2) at (c .1 .stand .chain (r .0) (r .1))) n)
 
 -- a head after publication is a new slot or was a head

@@ -19,15 +19,16 @@ use Rattle.rules.specs.Fit.{countsFit, writeFit, fit}
 use Rattle.rules.specs.Tests.{writeBaseConflict}
 use Rattle.rules.specs.Changes.{changes, destinations}
 use Rattle.rules.specs.Puts.{Put, putInsert, putRemove, applyAll}
-use Rattle.index.specs.Rising.{unique}
-use Rattle.laws.specs.Finals.{finals-all}
+use Rattle.laws.specs.Rising.{unique}
+use Rattle.laws.specs.Finals.{finals-all, finals-few}
 use Rattle.laws.specs.Sized.{Sized}
-use Rattle.index.specs.All.{all-then, none-fails}
+use Rattle.laws.specs.All.{all-then, none-fails}
 use Rattle.index.specs.Pair.{posting-of, row-small}
-use Rattle.index.specs.Heads.{same-value, value-same, head-member, heads-length}
+use Rattle.laws.specs.Heads.{heads-length}
+use Rattle.index.specs.Heads.{same-value, value-same, head-member}
 use Rattle.index.specs.Resting.{in-form, exact}
 use Rattle.index.specs.Posted.{mem-append, put-back-but, put-back}
-use Rattle.index.specs.Written.{rowsOf, finals-length, finals-once, pick, changed, side-length, mem-side, side-once}
+use Rattle.index.specs.Written.{rowsOf, finals-once, pick, changed, side-length, mem-side, side-once}
 
 -- a commit that got past its tests: the store rests and isn't poisoned, the transaction is fit, test 14 said no; the arrays have their declared lengths
 pub record Ready (S : Store) (x : Tx) : Type 0 where
@@ -102,7 +103,7 @@ module _ (S : Store) (x : Tx) (ok : Ready S x) where
   unfolding finals fit countsFit
   few =
       let count : x .«write_count» ≤ writeLimit = leb-true _ _ (every-cons _ _ (every-cons _ _ (ok .fits) .0) .0) in
-      omega (arith, finals-length (writesOf x), length-take (x .«write_count») (x .writes))
+      omega (arith, finals-few (writesOf x), length-take (x .«write_count») (x .writes))
 
   -- a destination is no posting yet: its row's posting, if any, is the base's, whose value differs
   pub new-destination : (p : ℕ) → memb p (destinations (changes S x)) ≡ true → memb p (postingsOf S) ≡ false

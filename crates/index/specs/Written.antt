@@ -14,9 +14,9 @@ use Rattle.rules.specs.Lists.{all, any, flat, memb}
 use Rattle.rules.specs.Store.{posting, valueAt, sameValue}
 use Rattle.rules.specs.Transaction.{finalWrites}
 use Rattle.rules.specs.Changes.{Change, changeOf, indexChanges, postingIn}
-use Rattle.index.specs.Bools.{or-none}
-use Rattle.index.specs.All.{all-append}
-use Rattle.index.specs.Rising.{unique}
+use Rattle.laws.specs.Bools.{or-none}
+use Rattle.laws.specs.All.{all-append}
+use Rattle.laws.specs.Rising.{unique}
 use Rattle.index.specs.Pair.{posting-test}
 use Rattle.index.specs.Posted.{mem-append}
 
@@ -26,12 +26,6 @@ rowOfWrite w = w .row .0
 
 abbrev pub rowsOf : List Write → List ℕ
 rowsOf ws = map rowOfWrite ws
-
--- there are no more final writes than writes
-pub finals-length : (ws : List Write) → length (finalWrites ws) ≤ length ws
-finals-length [] = omega arith
-finals-length (w ∷ ws) =
-    by (any (λ v. eqb (v .row .0) (w .row .0)) ws) (λ e. rw e (omega (arith, finals-length ws))) (λ e. rw e (omega (arith, finals-length ws)))
 
 -- a row that isn't written has no final write
 no-later : (q : ℕ) (ws : List Write) → any (λ v. eqb (v .row .0) q) ws ≡ false → memb q (rowsOf (finalWrites ws)) ≡ false

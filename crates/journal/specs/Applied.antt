@@ -1,12 +1,13 @@
 -- What applying the puts of a journal does to a store.
 use mathlib.Core.Path.{_≡_, refl, sym, ap, _∙_}
-use mathlib.Core.List.{List, [], _∷_, _++_}
+use mathlib.Core.List.{List, [], _∷_}
 use Prim.Native.Nat.{ℕ, _+_, min}
 use native.Mathlib.Numerals.{add-one}
 use native.Mathlib.Omega.{arith}
 use borrow.Author.Tests.{ne-eqb}
 use Rattle.rules.specs.Types.{Store}
 use Rattle.rules.specs.Puts.{Put, kStripe, kPartition, kInsert, kRemove, kXmax, kHead, kFree, kDrop, kStamp, kPoison, kDoom, kEnter, kClock, kXmin, kNext, kKey, kLock, apply, applyAll}
+use Rattle.rules.specs.Guards.{applyAll-append}
 use Rattle.journal.specs.Journal.{putLimit, putAt, puts, Holds}
 
 -- stores with the same fields are the same
@@ -51,11 +52,6 @@ same-store heads xmin xmax next key has locked owner postings count stripes part
   bound = bound i;
 }
 
--- puts one after the other
-pub apply-append : (ps qs : List Put) (S : Store) → applyAll (ps ++ qs) S ≡ applyAll qs (applyAll ps S)
-apply-append [] qs S = refl
-apply-append (p ∷ ps) qs S = apply-append ps qs (apply p S)
-
 -- no put yet, and one put more
 pub apply-none : (j : List ℕ) (S : Store) → S ≡ applyAll (puts j 0) S
 unfolding puts
@@ -63,7 +59,7 @@ apply-none j S = refl
 
 pub apply-more : (j : List ℕ) (i : ℕ) (S T U : Store) → T ≡ applyAll (puts j i) S → U ≡ apply (putAt j i) T → U ≡ applyAll (puts j (i + 1)) S
 unfolding puts
-apply-more j i S T U e f = rw add-one (f ∙ ap (apply (putAt j i)) e ∙ sym (apply-append (puts j i) (putAt j i ∷ []) S))
+apply-more j i S T U e f = rw add-one (f ∙ ap (apply (putAt j i)) e ∙ sym (applyAll-append (puts j i) (putAt j i ∷ []) S))
 
 -- what is applied is what the journal holds
 pub apply-held : {j : List ℕ} {n : ℕ} {ps : List Put} (S : Store) → Holds j n ps → applyAll (puts j (min n putLimit)) S ≡ applyAll ps S

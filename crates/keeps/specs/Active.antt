@@ -1,44 +1,28 @@
 -- The active list: its array and its txids, who is unfinished, and the list laid out anew.
-use mathlib.Core.Path.{_≡_, refl, sym, _∙_}
+use mathlib.Core.Path.{_≡_, refl, sym}
 use mathlib.Core.Bool.{Bool, true, false, not, _&&_, _||_}
 use mathlib.Core.List.{List, [], _∷_}
 use mathlib.Core.Logic.{⊎-elim}
-use Prim.Native.Nat.{ℕ, zero, suc, _≤_, _<_}
+use Prim.Native.Nat.{ℕ, _≤_, _<_}
 use native.Mathlib.Omega.{arith}
 use lib.ListN.{length, getD}
 use lib.Dec.{eqb}
-use borrow.Author.Tests.{eqb-true, eqb-false, ne-eqb}
+use borrow.Author.Tests.{eqb-true, eqb-false}
 use Rattle.types.specs.Limits.{activeLimit}
-use Rattle.rules.specs.Lists.{memb, pad, isZero, beforeZero}
+use Rattle.rules.specs.Lists.{memb, pad, isZero}
 use Rattle.rules.specs.Store.{activeTxids}
 use Rattle.rules.specs.Admitted.{finished}
-use Rattle.rules.specs.Bools.{by, clash, or-true, or-false, or-neither}
+use Rattle.rules.specs.Bools.{clash, or-true, or-false}
 use Rattle.laws.specs.Check.{Tail, Good, plain, ahead}
 use Rattle.index.specs.Active.{active-of}
+use Rattle.heart.specs.Active.{in-array}
 use Rattle.heart.specs.Forms.{Rising, is-rising, zero-from}
 use Rattle.heart.specs.Meaning.{ActiveForm}
 use Rattle.keeps.specs.All.{drop-pad}
 
--- an array of zeros has no txid
-mem-zeros : (l : List ℕ) (t : ℕ) → ((i : ℕ) → getD l i 0 ≡ 0) → (t ≡ 0 → ⊥) → memb t l ≡ false
-mem-zeros [] t h n = refl
-mem-zeros (x ∷ l) t h n = or-neither (eqb t x) (memb t l) (ne-eqb t x (λ e. n (e ∙ h zero))) (mem-zeros l t (λ i. h (suc i)) n)
-
--- the txids of the array are those before its first 0
-mem-before : (act : List ℕ) (t : ℕ) → ((i : ℕ) → length (beforeZero act) ≤ i → getD act i 0 ≡ 0) → (t ≡ 0 → ⊥) → memb t act ≡ memb t (beforeZero act)
-mem-before [] t h n = refl
-mem-before (x ∷ l) t h n = by (eqb x 0)
-    (λ e. rw e (mem-zeros (x ∷ l) t (λ i. h i (rw e (omega arith))) n))
-    (λ e. rw (e, mem-before l t (λ i le. h (suc i) (rw e (omega arith))) n))
-
--- a txid is as finished in one array as in another that has it too
-pub finished-same : (a b : List ℕ) (d t : ℕ) → ((t ≡ 0 → ⊥) → memb t a ≡ memb t b) → finished a d t ≡ finished b d t
-unfolding finished
-finished-same a b d t h = by (eqb t 0) (λ e. rw e) (λ e. rw (h (eqb-false t 0 e)))
-
 module _ (act : List ℕ) (clock : ℕ) (F : ActiveForm act clock) where
   pub mem-active : (t : ℕ) → (t ≡ 0 → ⊥) → memb t act ≡ memb t (activeTxids act)
-  mem-active t n = mem-before act t (F .after) n
+  mem-active t n = in-array t act n (F .after)
 
   -- what is not finished is active or doomed, and so below the clock
   pub unfinished-is : (d t : ℕ) → finished act d t ≡ false → (memb t (activeTxids act) || eqb t d) ≡ true

@@ -6,7 +6,7 @@ use Prim.Native.Nat.{ℕ, zero, suc}
 use lib.ListN.{length, drop}
 use Rattle.rules.specs.Lists.{all, pad}
 use Rattle.rules.specs.Bools.{and-true, and-both}
-use Rattle.index.specs.All.{all-append}
+use Rattle.laws.specs.All.{all-append}
 
 -- two tests of all
 pub all-both : {A : Type 0} (f g : A → Bool) (l : List A) → all f l ≡ true → all g l ≡ true → all (λ x. f x && g x) l ≡ true

@@ -21,9 +21,9 @@ use Rattle.rules.specs.Calls.{begun, begin}
 use Rattle.rules.specs.Bools.{by, clash, or-true, or-right, mem-here, mem-there, cons-every, every-none}
 use Rattle.laws.specs.Sized.{Sized}
 use Rattle.laws.specs.Parts.{parts-fit}
-use Rattle.index.specs.Bools.{or-none}
+use Rattle.laws.specs.Bools.{or-none}
 use Rattle.index.specs.Posted.{mem-append}
-use Rattle.index.specs.Rising.{rising-from}
+use Rattle.laws.specs.Rising.{rising-from}
 use Rattle.index.specs.Active.{active-of}
 use Rattle.index.specs.Packed.{before-take}
 use Rattle.heart.specs.Forms.{Rising, is-rising, from-zero}
@@ -33,7 +33,8 @@ use Rattle.heart.specs.Resting.{Rests, rests, rested}
 use Rattle.keeps.specs.Refusals.{begin-accepted}
 use Rattle.keeps.specs.Passed.{begin-passed}
 use Rattle.keeps.specs.Near.{Alike, versions-near, created-near, ended-near}
-use Rattle.keeps.specs.Active.{mem-active, finished-same, unfinished-below, form-pad, ended-below}
+use Rattle.heart.specs.Active.{finished-same}
+use Rattle.keeps.specs.Active.{mem-active, unfinished-below, form-pad, ended-below}
 use Rattle.keeps.specs.Keeps.{Keeps, same-postings, same-posted}
 
 -- a list with one number more

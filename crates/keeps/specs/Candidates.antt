@@ -3,7 +3,7 @@ use mathlib.Core.Path.{_≡_, refl, sym, _∙_}
 use mathlib.Core.Bool.{Bool, true, false, _||_}
 use mathlib.Core.List.{List, [], _∷_, _++_, map}
 use mathlib.Core.Logic.{_↔_}
-use Prim.Native.Nat.{ℕ, suc, _+_, _<_}
+use Prim.Native.Nat.{ℕ, suc, _<_}
 use native.Mathlib.Omega.{arith}
 use lib.Dec.{eqb, leb}
 use borrow.Author.Tests.{eqb-true, eqb-false, eq-eqb, ne-eqb, ltb-true, leb-true}
@@ -20,7 +20,7 @@ use Rattle.laws.specs.Lists.{mem-those}
 use Rattle.laws.specs.Parts.{write-parts, fit-parts}
 use Rattle.index.specs.Heads.{same-value, value-same}
 use Rattle.index.specs.Posted.{mem-append}
-use Rattle.index.specs.Rising.{eqb-sym, rising-less, mem-inOrder, rising-inOrder}
+use Rattle.laws.specs.Rising.{eqb-sym, rising-less, mem-inOrder, rising-inOrder}
 use Rattle.keeps.specs.Reads.{ofRow}
 
 -- some of a rising list rise

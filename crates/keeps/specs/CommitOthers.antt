@@ -26,8 +26,8 @@ use Rattle.rules.specs.Answer.{uncut, cutOff, answer, commit}
 use Rattle.rules.specs.Bools.{by, clash, and-true, and-both, or-true, or-false, or-left, or-right, mem-here, mem-there}
 use Rattle.rules.specs.Only.{only-take, kept, is-not}
 use Rattle.rules.specs.Rows.{Admitted, every-commit}
-use Rattle.index.specs.All.{all-append, all-take}
-use Rattle.index.specs.Rising.{mem-without}
+use Rattle.laws.specs.All.{all-append, all-take}
+use Rattle.laws.specs.Rising.{mem-without}
 use Rattle.index.specs.Packed.{pad-length}
 use Rattle.laws.specs.Lists.{all-mem, mem-those}
 use Rattle.laws.specs.Chain.{IsChain, chain-head}

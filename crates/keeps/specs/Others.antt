@@ -16,7 +16,7 @@ use Rattle.rules.specs.Puts.{putEnter, putClock, putLock, applyAll}
 use Rattle.rules.specs.Calls.{begin, write, rowLock, abort}
 use Rattle.rules.specs.Bools.{or-left}
 use Rattle.laws.specs.Sized.{Sized}
-use Rattle.index.specs.Rising.{mem-without}
+use Rattle.laws.specs.Rising.{mem-without}
 use Rattle.heart.specs.Resting.{Rests, rests, rested}
 use Rattle.keeps.specs.Refusals.{begin-accepted, rowLock-accepted}
 use Rattle.keeps.specs.StaysFit.{on-same, stays-fit}

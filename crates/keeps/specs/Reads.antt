@@ -22,9 +22,9 @@ use Rattle.laws.specs.Chain.{chain-below}
 use Rattle.laws.specs.Chained.{chained-from}
 use Rattle.laws.specs.Sized.{Sized}
 use Rattle.laws.specs.Parts.{fit-parts, write-parts}
-use Rattle.index.specs.Rising.{unique}
+use Rattle.laws.specs.Rising.{unique}
 use Rattle.index.specs.Packed.{take-pad}
-use Rattle.index.specs.All.{all-then}
+use Rattle.laws.specs.All.{all-then}
 use Rattle.heart.specs.Meaning.{marks}
 use Rattle.heart.specs.Resting.{Rests}
 use Rattle.keeps.specs.Refusals.{read-accepted}

@@ -2,34 +2,27 @@
 use mathlib.Core.Path.{_≡_, refl, sym, _∙_}
 use mathlib.Core.Bool.{true, false, not, _&&_}
 use mathlib.Core.List.{List, [], _∷_, _++_, map}
-use Prim.Native.Nat.{ℕ, suc, _≤_, _<_}
+use Prim.Native.Nat.{ℕ, _≤_, _<_}
 use native.Mathlib.Omega.{arith}
 use lib.ListN.{length, length-map}
 use lib.Dec.{eqb, ltb}
 use borrow.Author.Tests.{eqb-false, ne-eqb, lt-ltb, not-true}
 use Rattle.types.specs.Limits.{stripes}
-use Rattle.rules.specs.Lists.{all, any, memb, into, inOrder}
+use Rattle.rules.specs.Lists.{all, any, memb, inOrder}
 use Rattle.rules.specs.Types.{IndexRead}
 use Rattle.rules.specs.Fit.{stripesApart}
 use Rattle.rules.specs.Calls.{recordStamp}
 use Rattle.rules.specs.Bools.{by, and-true, and-both, or-false, or-neither}
 use Rattle.laws.specs.Lists.{all-mem, mem-all}
-use Rattle.index.specs.Rising.{unique, rising-short, mem-inOrder, rising-inOrder}
+use Rattle.laws.specs.Rising.{unique, rising-short, mem-inOrder, rising-inOrder, length-into}
 use Rattle.keeps.specs.All.{all-more}
-
--- a new number makes a list one longer
-into-new : (c : ℕ) (l : List ℕ) → memb c l ≡ false → length (into c l) ≡ suc (length l)
-into-new c [] n = refl
-into-new c (y ∷ l) n =
-    let o = or-false (eqb c y) (memb c l) n in
-    by (ltb c y) (λ e. rw e) (λ e. rw (e, o .0, into-new c l (o .1)))
 
 -- distinct numbers put in order are as many
 order-long : (l : List ℕ) → unique l ≡ true → length (inOrder l) ≡ length l
 order-long [] u = refl
 order-long (x ∷ l) u =
     let a = and-true (not (memb x l)) (unique l) u in
-    rw (into-new x (inOrder l) (mem-inOrder l x ∙ not-true (memb x l) (a .0)), order-long l (a .1))
+    rw (length-into x (inOrder l) (mem-inOrder l x ∙ not-true (memb x l) (a .0)), order-long l (a .1))
 
 -- at most n distinct numbers are below n
 unique-few : (n : ℕ) (l : List ℕ) → unique l ≡ true → all (λ x. ltb x n) l ≡ true → length l ≤ n

@@ -12,7 +12,7 @@ use Rattle.rules.specs.Chains.{walk, on}
 use Rattle.rules.specs.Fit.{writeFit, fit}
 use Rattle.laws.specs.Sized.{Sized}
 use Rattle.laws.specs.Parts.{write-parts, parts-write, fit-parts, parts-fit}
-use Rattle.index.specs.All.{all-then}
+use Rattle.laws.specs.All.{all-then}
 use Rattle.heart.specs.Meaning.{marks}
 use Rattle.heart.specs.Resting.{Rests}
 use Rattle.keeps.specs.Near.{on-near}

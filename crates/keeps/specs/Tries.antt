@@ -10,7 +10,7 @@ use Rattle.rules.specs.Lists.{all, memb}
 use Rattle.rules.specs.Types.{Refusal}
 use Rattle.rules.specs.Numbers.{numberOf, Try, refuse, tries, isDone}
 use Rattle.rules.specs.Bools.{by, clash, and-true, and-both, or-false, mem-here, mem-there, None, none-more, none-less}
-use Rattle.index.specs.Rising.{unique}
+use Rattle.laws.specs.Rising.{unique}
 
 -- a line of "Numbers seen": the number, the refusal with its fate inside, and when it applies
 pub record Line : Type 0 where

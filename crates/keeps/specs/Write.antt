@@ -24,7 +24,7 @@ use Rattle.laws.specs.Chained.{chained-from}
 use Rattle.laws.specs.Sized.{Sized}
 use Rattle.laws.specs.Parts.{write-parts, parts-write, fit-parts, parts-fit}
 use Rattle.index.specs.Packed.{pad-length, take-pad}
-use Rattle.index.specs.All.{all-then}
+use Rattle.laws.specs.All.{all-then}
 use Rattle.heart.specs.Meaning.{marks}
 use Rattle.heart.specs.Start.{txid-positive}
 use Rattle.heart.specs.Resting.{Rests, rests, rested}

@@ -2,6 +2,9 @@
 use mathlib.Core.Path.{_≡_, refl}
 use mathlib.Core.Bool.{Bool, true, false, not, _&&_, _||_}
 use mathlib.Core.List.{List, [], _∷_}
+use Prim.Native.Nat.{_≤_}
+use native.Mathlib.Omega.{arith}
+use lib.ListN.{length}
 use lib.Dec.{eqb}
 use Rattle.rules.specs.Types.{Write}
 use Rattle.rules.specs.Lists.{all, any}
@@ -28,6 +31,13 @@ differs w v = not (sameRow w v) && not (sameNew w v)
 abbrev pub distinct : List Write → Bool
 distinct [] = true
 distinct (w ∷ ws) = all (differs w) ws && distinct ws
+
+-- there are no more of them than writes
+pub finals-few : (ws : List Write) → length (finalWrites ws) ≤ length ws
+finals-few [] = omega arith
+finals-few (w ∷ ws) =
+    let h = finals-few ws in
+    by (any (sameRow w) ws) (λ e. rw e (omega arith)) (λ e. rw e (omega arith))
 
 -- a test of all writes holds of the final ones
 pub finals-all : (f : Write → Bool) (ws : List Write) → all f ws ≡ true → all f (finalWrites ws) ≡ true

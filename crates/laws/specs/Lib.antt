@@ -1,6 +1,12 @@
 -- Laws of the definitions of the crate `rules`.
-pub mod FaultTable
+-- lists and tests
+pub mod Bools
 pub mod Lists
+pub mod All
+pub mod Rising
+pub mod Heads
+-- the table of faults; chains and the walk; a run's parts
+pub mod FaultTable
 pub mod Chain
 pub mod Walk
 pub mod Sound

@@ -26,6 +26,11 @@ module _ {ℓ} {A : Type ℓ} where
   at-all f [] z h = refl
   at-all f (x ∷ l) z h = and-both (f x) (all f l) (h zero (omega arith)) (at-all f l z (λ p lt. h (suc p) (omega arith)))
 
+  -- the test g of each element and each later one
+  abbrev pub pairs : (A → A → Bool) → List A → Bool
+  pairs g [] = true
+  pairs g (a ∷ l) = all (g a) l && pairs g l
+
   -- two filters, of which the second matters only where the first passes
   pub those-those : (f g k : A → Bool) (l : List A) → ((x : A) → f x ≡ true → g x ≡ k x) → those f (those g l) ≡ those f (those k l)
   those-those f g k [] h = refl
@@ -69,6 +74,18 @@ all-mem f (x ∷ l) h p m =
 pub mem-all : (f : ℕ → Bool) (l : List ℕ) → ((p : ℕ) → memb p l ≡ true → f p ≡ true) → all f l ≡ true
 mem-all f [] h = refl
 mem-all f (x ∷ l) h = and-both (f x) (all f l) (h x (mem-here x l)) (mem-all f l (λ p m. h p (mem-there p x l m)))
+
+-- what stands at a place is a member, and a member stands somewhere
+pub at-mem : (l : List ℕ) (q : ℕ) → q < length l → memb (getD l q 0) l ≡ true
+at-mem [] q lt = absurd (omega arith)
+at-mem (x ∷ l) zero lt = mem-here x l
+at-mem (x ∷ l) (suc q) lt = mem-there (getD l q 0) x l (at-mem l q (omega arith))
+
+pub mem-at : (l : List ℕ) (y : ℕ) → memb y l ≡ true → (q : ℕ) × (q < length l) × (getD l q 0 ≡ y)
+mem-at [] y m = clash {b = false} m refl
+mem-at (x ∷ l) y m = or-true (eqb y x) (memb y l) m
+    (λ e. (zero, omega arith, sym (eqb-true y x e)))
+    (λ e. let k = mem-at l y e in (suc (k .0), omega (arith, k .1), k .2))
 
 -- the members of a filtered list
 pub mem-those : (f : ℕ → Bool) (l : List ℕ) (p : ℕ) → memb p (those f l) ≡ (memb p l && f p)

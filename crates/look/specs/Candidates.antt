@@ -17,7 +17,8 @@ use Rattle.rules.specs.Transaction.{writesOf}
 use Rattle.rules.specs.Chains.{walk}
 use Rattle.rules.specs.Fit.{fit, writeFit}
 use Rattle.rules.specs.Calls.{candidates}
-use Rattle.view.specs.Marks.{markAll, mark-append, all-append}
+use Rattle.laws.specs.All.{all-append}
+use Rattle.view.specs.Marks.{markAll, mark-append}
 use Rattle.look.specs.Marks.{noRows, markedRows, rows-in-order}
 
 -- the rows of those of a list of postings that are of key k

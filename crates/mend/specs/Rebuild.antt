@@ -1,17 +1,16 @@
 -- The postings of the heads, put in from the last row down.
 use mathlib.Core.Path.{_≡_, refl, _∙_}
 use mathlib.Core.Bool.{Bool, true, false, cond}
-use mathlib.Core.List.{List, [], _∷_}
+use mathlib.Core.List.{List, []}
 use Prim.Native.Nat.{ℕ, suc, _-_, _<_, _≤_, min}
 use native.Mathlib.Omega.{arith}
 use lib.ListN.{length, getD, take, drop, replicate, length-drop}
 use lib.Seq.{drop-cons, take-all}
-use lib.Dec.{eqb, ltb}
 use Rattle.types.specs.Limits.{rows, postingLimit}
-use Rattle.rules.specs.Bools.{by}
 use Rattle.rules.specs.Lists.{pad, into}
 use Rattle.rules.specs.Store.{posting}
 use Rattle.rules.specs.Admitted.{headPostings}
+use Rattle.laws.specs.Heads.{heads-length}
 use Rattle.packed.specs.Packed.{Packed}
 use Rattle.view.specs.Lent.{array, atRows, array-length, array-at, array-end}
 use Rattle.view.specs.Pad.{take-pad}
@@ -19,23 +18,6 @@ use Rattle.view.specs.Pad.{take-pad}
 -- a list laid out in an array that has room for it is read back
 taken-back : (n : ℕ) (l : List ℕ) → length l ≤ n → take (length l) (pad n 0 l) ≡ l
 taken-back n l h = let e : min (length l) n ≡ length l = omega arith in (rw e at (take-pad n 0 l)) ∙ take-all n l h
-
--- one number put in makes a list longer by at most one
-into-length : (v : ℕ) (l : List ℕ) → length (into v l) ≤ suc (length l)
-into-length v [] = omega arith
-into-length v (y ∷ l) =
-    by (ltb v y) (λ e. rw e (omega arith)) (λ e. by (eqb v y) (λ d. rw (e, d) (omega arith)) (λ d. rw (e, d) (omega (arith, into-length v l))))
-
--- there are no more postings than heads
-heads-length : (key : List ℕ) (has : List Bool) (r : ℕ) (hs : List ℕ) → length (headPostings key has r hs) ≤ length hs
-heads-length key has r [] = omega arith
-heads-length key has r (h ∷ hs) =
-    let l = headPostings key has (suc r) hs in
-    let v = posting (getD key h 0) r in
-    by
-    (getD has h false)
-    (λ e. rw e (omega (arith, heads-length key has (suc r) hs, into-length v l)))
-    (λ e. rw e (omega (arith, heads-length key has (suc r) hs)))
 
 module _ (key : List ℕ) (has : List Bool) (heads : List ℕ) where
   -- the postings of the rows from r on; shut, so that a law finds its parts

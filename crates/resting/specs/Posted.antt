@@ -1,8 +1,8 @@
 -- The postings over lent arrays: their form in one pass, and the test that the heads tell them.
 use mathlib.Core.Path.{_≡_, ap}
-use mathlib.Core.Bool.{Bool, true, false, _&&_, _||_, and-true}
+use mathlib.Core.Bool.{Bool, true, false, _&&_, and-true}
 use mathlib.Core.List.{List, [], _∷_}
-use Prim.Native.Nat.{ℕ, suc, _+_, _<_, _≤_}
+use Prim.Native.Nat.{ℕ, suc, _<_, _≤_}
 use borrow.Author.Tests.{le-leb, lt-leb, leb-true}
 use lib.ListN.{getD, take, drop}
 use lib.Dec.{eqb, ltb, leb}

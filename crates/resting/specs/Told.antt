@@ -2,71 +2,19 @@
 use mathlib.Core.Path.{_≡_, refl, sym, ap, _∙_}
 use mathlib.Core.Bool.{Bool, true, false, cond, _&&_, _||_, and-false as and-no, or-false as or-no}
 use mathlib.Core.List.{List, [], _∷_}
-use Prim.Native.Nat.{ℕ, suc, _+_, _*_, _-_, _/_, _%_, _<_, _≤_}
+use Prim.Native.Nat.{ℕ, suc, _+_, _-_, _<_, _≤_}
 use native.Mathlib.Omega.{arith}
-use borrow.Author.Tests.{eq-eqb, ne-eqb, eqb-true, eqb-false, ltb-true, ltb-false, lt-ltb, le-ltb, le-leb, leb-true}
+use borrow.Author.Tests.{eq-eqb, ne-eqb, eqb-true, eqb-false, ltb-true, ltb-false, lt-ltb, le-ltb, le-leb}
 use lib.ListN.{length, getD}
 use lib.Dec.{eqb, ltb, leb}
 use Rattle.types.specs.Limits.{rows}
 use Rattle.rules.specs.Lists.{all, those, memb, same, rising, into}
-use Rattle.rules.specs.Bools.{by, clash, iff, or-true, or-false, and-true, and-both, mem-here, mem-there}
+use Rattle.rules.specs.Bools.{by, clash, iff, or-true, and-true, and-both, mem-here, mem-there}
 use Rattle.laws.specs.Lists.{all-mem, mem-all}
+use Rattle.laws.specs.Rising.{rising-from, mem-into, length-into, same-equal, equal-same}
+use Rattle.laws.specs.Heads.{heads-rising}
 use Rattle.rules.specs.Store.{posting, keyOf, rowOf}
 use Rattle.rules.specs.Admitted.{headPostings}
-
--- putting into a rising list: it rises still
-pub rising-into : (lo x : ℕ) (l : List ℕ) → rising lo l ≡ true → lo ≤ x → rising lo (into x l) ≡ true
-rising-into lo x [] r h = rw (le-leb lo x h)
-rising-into lo x (y ∷ l) r h =
-    let low = and-true (leb lo y) (rising (suc y) l) r .0 in
-    let rest = and-true (leb lo y) (rising (suc y) l) r .1 in
-    by
-    (ltb x y)
-    (λ e. rw (e, le-leb lo x h, le-leb (suc x) y (ltb-true x y e), rest))
-    (λ e. by
-    (eqb x y)
-    (λ d. rw (e, d) r)
-    (λ d. let n = eqb-false x y d in let m = ltb-false x y e in rw (e, d, low) (rising-into (suc y) x l rest (omega arith))))
-
--- its members are those and the new one
-pub memb-into : (c x : ℕ) (l : List ℕ) → memb c (into x l) ≡ (eqb c x || memb c l)
-memb-into c x [] = refl
-memb-into c x (y ∷ l) =
-    by
-    (ltb x y)
-    (λ e. rw e)
-    (λ e. by
-    (eqb x y)
-    (λ d. rw (e, d, eqb-true x y d) (twice (eqb c y) (memb c l)))
-    (λ d. rw (e, d, memb-into c x l) (swap (eqb c y) (eqb c x) (memb c l))))
-  where
-    twice : (a b : Bool) → (a || b) ≡ (a || (a || b))
-    twice true b = refl
-    twice false b = refl
-
-    swap : (a b m : Bool) → (a || (b || m)) ≡ (b || (a || m))
-    swap true true m = refl
-    swap true false m = refl
-    swap false b m = refl
-
--- a new one makes it longer by one
-pub length-into : (x : ℕ) (l : List ℕ) → memb x l ≡ false → length (into x l) ≡ suc (length l)
-length-into x [] e = refl
-length-into x (y ∷ l) e =
-    let d = or-false (eqb x y) (memb x l) e .0 in
-    by (ltb x y) (λ f. rw f) (λ f. rw (f, d, length-into x l (or-false (eqb x y) (memb x l) e .1)))
-
--- a member of a rising list is not below its start
-pub rising-least : (lo : ℕ) (l : List ℕ) (c : ℕ) → rising lo l ≡ true → memb c l ≡ true → lo ≤ c
-rising-least lo [] c r m = clash {b = false} m refl
-rising-least lo (x ∷ l) c r m =
-    let low = leb-true lo x (and-true (leb lo x) (rising (suc x) l) r .0) in
-    or-true
-    (eqb c x)
-    (memb c l)
-    m
-    (λ e. let d = eqb-true c x e in omega arith)
-    (λ e. let d = rising-least (suc x) l c (and-true (leb lo x) (rising (suc x) l) r .1) e in omega arith)
 
 -- a rising list whose members another rising list has is no longer, and is that list if it is as long
 abbrev Within : List ℕ → List ℕ → Type 0
@@ -83,7 +31,7 @@ module _ (lo x y : ℕ) (a b : List ℕ) (p : rising lo (x ∷ a) ≡ true) (q :
   -- the two start alike
   alike : x ≡ y → (rising (suc x) b ≡ true → ((c : ℕ) → memb c a ≡ true → memb c b ≡ true) → Within a b) → Within (x ∷ a) (y ∷ b)
   alike e h =
-      let w = h (rw e (and-true (leb lo y) (rising (suc y) b) q .1)) (λ c m. let d = rising-least (suc x) a c rest m in beyond c (mem-there c x a m) (omega arith)) in
+      let w = h (rw e (and-true (leb lo y) (rising (suc y) b) q .1)) (λ c m. let d = rising-from (suc x) a c rest m in beyond c (mem-there c x a m) (omega arith)) in
       (omega arith, λ l. rw e (ap (λ (t : List ℕ). y ∷ t) (w .1 (omega arith))))
 
   -- the other starts lower
@@ -91,9 +39,9 @@ module _ (lo x y : ℕ) (a b : List ℕ) (p : rising lo (x ∷ a) ≡ true) (q :
   lower n h =
       let rest′ = and-true (leb lo y) (rising (suc y) b) q .1 in
       let in′ : memb x b ≡ true = or-true (eqb x y) (memb x b) (s x (mem-here x a)) (λ e. absurd (n (eqb-true x y e))) (λ e. e) in
-      let up : suc y ≤ x = rising-least (suc y) b x rest′ in′ in
+      let up : suc y ≤ x = rising-from (suc y) b x rest′ in′ in
       let rises : rising (suc y) (x ∷ a) ≡ true = and-both (leb (suc y) x) (rising (suc x) a) (le-leb (suc y) x up) rest in
-      let w = h rises rest′ (λ c m. let d = rising-least (suc y) (x ∷ a) c rises m in beyond c m (omega arith)) in
+      let w = h rises rest′ (λ c m. let d = rising-from (suc y) (x ∷ a) c rises m in beyond c m (omega arith)) in
       (omega arith, λ l. absurd (omega arith))
 
 pub rising-within : (lo : ℕ) (a b : List ℕ) → rising lo a ≡ true → rising lo b ≡ true → ((c : ℕ) → memb c a ≡ true → memb c b ≡ true) → Within a b
@@ -106,22 +54,6 @@ rising-within lo (x ∷ a) (y ∷ b) p q s =
     (λ e. alike lo x y a b p q s (eqb-true x y e) (λ r. rising-within (suc x) a b (rest lo x y a b p q s) r))
     (λ e. lower lo x y a b p q s (eqb-false x y e) (rising-within (suc y) (x ∷ a) b))
 
--- the test that two lists are the same
-pub same-equal : (a b : List ℕ) → same a b ≡ true → a ≡ b
-same-equal [] [] e = refl
-same-equal [] (y ∷ b) e = clash {b = false} e refl
-same-equal (x ∷ a) [] e = clash {b = false} e refl
-same-equal (x ∷ a) (y ∷ b) e =
-    let both = and-true (eqb x y) (same a b) e in
-    rw (eqb-true x y (both .0)) (ap (λ (l : List ℕ). y ∷ l) (same-equal a b (both .1)))
-
-pub same-self : (a : List ℕ) → same a a ≡ true
-same-self [] = refl
-same-self (x ∷ a) = rw (eq-eqb x x refl) (same-self a)
-
-pub equal-same : (a b : List ℕ) → a ≡ b → same a b ≡ true
-equal-same a b e = rw e (same-self b)
-
 -- the postings of the heads from row r on
 module _ (key : List ℕ) (has : List Bool) where
   abbrev valuedHead : ℕ → Bool
@@ -130,16 +62,6 @@ module _ (key : List ℕ) (has : List Bool) where
   -- a head that has the posting's key
   abbrev tells : ℕ → ℕ → Bool
   tells c h = valuedHead h && eqb (getD key h 0) (keyOf c)
-
-  -- they rise
-  pub heads-rise : (r : ℕ) (hs : List ℕ) → rising 0 (headPostings key has r hs) ≡ true
-  heads-rise r [] = refl
-  heads-rise r (h ∷ hs) = at (valuedHead h) (heads-rise (suc r) hs)
-    where
-      at : (b : Bool) → rising 0 (headPostings key has (suc r) hs) ≡ true
-          → rising 0 (cond b (into (posting (getD key h 0) r) (headPostings key has (suc r) hs)) (headPostings key has (suc r) hs)) ≡ true
-      at true e = rising-into 0 (posting (getD key h 0) r) (headPostings key has (suc r) hs) e (omega arith)
-      at false e = e
 
   -- the posting of one row, or of another
   one-row : (c k r : ℕ) → r < rows → eqb c (posting k r) ≡ (eqb (rowOf c) r && eqb k (keyOf c))
@@ -156,7 +78,7 @@ module _ (key : List ℕ) (has : List Bool) where
   -- a head's posting beside those of the later rows
   beside : (c r h : ℕ) (l : List ℕ) (v : Bool) → r < rows
       → memb c (cond v (into (posting (getD key h 0) r) l) l) ≡ ((v && (eqb (rowOf c) r && eqb (getD key h 0) (keyOf c))) || memb c l)
-  beside c r h l true b = memb-into c (posting (getD key h 0) r) l ∙ ap (λ x. x || memb c l) (one-row c (getD key h 0) r b)
+  beside c r h l true b = mem-into (posting (getD key h 0) r) l c ∙ ap (λ x. x || memb c l) (one-row c (getD key h 0) r b)
   beside c r h l false b = refl
 
   -- a posting is among them if its row's head tells it
@@ -215,7 +137,7 @@ module _ (key : List ℕ) (has : List Bool) where
         (λ e.
         let told = and-true (all f ps) (eqb (length ps) (length (those valuedHead heads))) e in
         let many = eqb-true (length ps) (length (those valuedHead heads)) (told .1) in
-        let w = rising-within 0 ps hs r (heads-rise 0 heads) (λ c m. told-memb c ∙ all-mem f ps (told .0) c m) in
+        let w = rising-within 0 ps hs r (heads-rising key has 0 heads) (λ c m. told-memb c ∙ all-mem f ps (told .0) c m) in
         equal-same ps hs (w .1 (omega arith)))
         (λ e.
         let q = same-equal ps hs e in

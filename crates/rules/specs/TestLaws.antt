@@ -24,7 +24,7 @@ pub either : {P Q : Type 0} (a b : Bool) → (a ≡ true) ↔ P → (b ≡ true)
 either true b p q = (λ t. inl (p .0 refl), λ s. refl)
 either false b p q = (λ t. inr (q .0 t), ⊎-elim (λ x. absurd (false≢true (p .1 x))) (q .1))
 
-both : {P Q : Type 0} (a b : Bool) → (a ≡ true) ↔ P → (b ≡ true) ↔ Q → ((a && b) ≡ true) ↔ (P × Q)
+pub both : {P Q : Type 0} (a b : Bool) → (a ≡ true) ↔ P → (b ≡ true) ↔ Q → ((a && b) ≡ true) ↔ (P × Q)
 both a b p q = Iff·trans (and-eq-true-iff a b) (Iff·and p q)
 
 neither : {P Q : Type 0} (a b : Bool) → (not a ≡ true) ↔ P → (not b ≡ true) ↔ Q → (not (a || b) ≡ true) ↔ (P × Q)
@@ -35,7 +35,7 @@ some {ℓ} : {A : Type ℓ} (f : A → Bool) (P : A → Type 0) → ((a : A) →
 some f P h [] = (false≢true, absurd)
 some f P h (x ∷ l) = either (f x) (any f l) (h x) (some f P h l)
 
-differ : (m n : ℕ) → (not (eqb m n) ≡ true) ↔ (m ≢ n)
+pub differ : (m n : ℕ) → (not (eqb m n) ≡ true) ↔ (m ≢ n)
 differ m n = (λ t. eqb-false m n (not-true (eqb m n) t), λ d. rw (ne-eqb m n d))
 
 -- "11 index_conflict is set or a recorded stamp differs"

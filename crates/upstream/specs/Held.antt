@@ -20,8 +20,8 @@ use Rattle.rules.specs.Only.{only, only-map, kept, is-not}
 use Rattle.rules.specs.Guards.{setAll, applyAll-append}
 use Rattle.rules.specs.Released.{unguarded}
 use Rattle.rules.specs.Outcome.{guardsTaken}
-use Rattle.index.specs.Bools.{or-none}
-use Rattle.index.specs.Rising.{mem-inOrder}
+use Rattle.laws.specs.Bools.{or-none}
+use Rattle.laws.specs.Rising.{mem-inOrder}
 use Rattle.index.specs.Pair.{key-of-posting}
 use Rattle.index.specs.Posted.{mem-append}
 use Rattle.index.specs.Undone.{Ready, rows-fit}

@@ -19,8 +19,8 @@ use Rattle.rules.specs.Commit.{Clean, fails, rollback}
 use Rattle.laws.specs.Lists.{all-mem, mem-all}
 use Rattle.laws.specs.Beside.{beside}
 use Rattle.laws.specs.Abort.{rollback-flag}
-use Rattle.index.specs.All.{all-append, all-take}
-use Rattle.index.specs.Rising.{mem-into, mem-without, into-length, without-length}
+use Rattle.laws.specs.All.{all-append, all-take}
+use Rattle.laws.specs.Rising.{mem-into, mem-without, into-length, without-length}
 use Rattle.index.specs.Resting.{in-form}
 use Rattle.index.specs.Posted.{posted, posted-of, posted-own, intoAll, withoutAll, mem-intoAll, mem-withoutAll, intoAll-length, inserted, removed}
 use Rattle.index.specs.Undone.{Ready, take-map, room, new-destination, undone}

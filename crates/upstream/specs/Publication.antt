@@ -29,7 +29,7 @@ use Rattle.laws.specs.Check.{Tail}
 use Rattle.laws.specs.Finals.{finals-all}
 use Rattle.laws.specs.Parts.{WriteFit, write-parts, Fit, fit-parts}
 use Rattle.laws.specs.Published.{publish-only}
-use Rattle.index.specs.All.{all-then}
+use Rattle.laws.specs.All.{all-then}
 use Rattle.index.specs.Resting.{Exact}
 use Rattle.index.specs.Undone.{Ready}
 use Rattle.index.specs.Exact.{postings-kept, changed-exact}

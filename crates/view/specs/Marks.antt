@@ -11,6 +11,7 @@ use lib.Dec.{eqb, ltb}
 use borrow.Author.Tests.{eqb-true, eqb-false, eq-eqb, ne-eqb, lt-ltb, le-ltb, ltb-true}
 use Rattle.rules.specs.Lists.{all, into, inOrder}
 use Rattle.rules.specs.Bools.{by, and-true}
+use Rattle.laws.specs.Rising.{all-into}
 
 -- every number of l marked, one after the other
 abbrev pub markAll : List ℕ → List Bool → List Bool
@@ -93,21 +94,9 @@ order-marks [] m = refl
 order-marks (x ∷ l) m = into-marks x (inOrder l) m ∙ order-marks l (set m x true)
 
 -- a test of all of them holds of them in order
-into-all : (f : ℕ → Bool) (x : ℕ) (l : List ℕ) → f x ≡ true → all f l ≡ true → all f (into x l) ≡ true
-into-all f x [] h a = rw h
-into-all f x (y ∷ l) h a =
-    let b = and-true (f y) (all f l) a in
-    by (ltb x y)
-    (λ e. rw (e, h, b .0, b .1))
-    (λ e. by (eqb x y) (λ q. rw (e, q, b .0, b .1)) (λ q. rw (e, q, b .0, into-all f x l h (b .1))))
-
 pub order-all : (f : ℕ → Bool) (l : List ℕ) → all f l ≡ true → all f (inOrder l) ≡ true
 order-all f [] h = refl
-order-all f (x ∷ l) h = let b = and-true (f x) (all f l) h in into-all f x (inOrder l) (b .0) (order-all f l (b .1))
-
-pub all-append {ℓ} : {A : Type ℓ} (f : A → Bool) (l k : List A) → all f l ≡ true → all f k ≡ true → all f (l ++ k) ≡ true
-all-append f [] k h g = g
-all-append f (x ∷ l) k h g = let b = and-true (f x) (all f l) h in rw (b .0) (all-append f l k (b .1) g)
+order-all f (x ∷ l) h = let b = and-true (f x) (all f l) h in all-into f x (inOrder l) (b .0) (order-all f l (b .1))
 
 -- one element of a list more, whose number is marked if it has a place
 module _ {ℓ} {A : Type ℓ} (f : A → ℕ) (a : A) (l rest : List A) (m : List Bool) (next : l ≡ a ∷ rest) where

@@ -1,69 +1,44 @@
 -- The walk of all chains, one turn at a time.
 use mathlib.Core.Path.{_≡_, refl, ap, _∙_}
-use mathlib.Core.Bool.{true, false}
 use mathlib.Core.List.{List, [], _∷_}
 use Prim.Native.Nat.{ℕ, zero, suc, _+_, _<_, _≤_}
 use native.Mathlib.Omega.{arith}
 use native.Mathlib.Numerals.{add-one}
 use lib.ListN.{getD, set, drop, length, replicate, drop-of-length-le, length-set, length-replicate}
 use lib.Seq.{drop-cons}
-use borrow.Author.Tests.{eq-eqb, ne-eqb, lt-ltb, le-ltb}
 use lib.Dec.{eqb, ltb}
 use Rattle.types.specs.Limits.{slots, places, noMarks}
 use Rattle.rules.specs.Chains.{Walk, stop, walkRow, walkRows, walk}
 use Rattle.rules.specs.Bools.{by}
+use Rattle.laws.specs.Walk.{Ended, after, row-high as high, row-twice as twice, row-step as step}
 use Rattle.view.specs.Lent.{array-same, atPlaces}
-
-abbrev pub done : List ℕ → Walk
-done seen = record { ok = true; seen = seen }
-
--- what is left to walk after a row's chain
-unfoldable pub after : List ℕ → List ℕ → Walk → Walk
-after next hs w = elim (w .ok) [ true ↦ walkRows next hs (w .seen) | false ↦ w ]
 
 -- one turn along a chain, by its tests; i is the place of the slot p
 module _ (next seen : List ℕ) where
-  pub row-end : (f p : ℕ) → p ≡ 0 → walkRow f next seen p ≡ done seen
-  unfolding walkRow
-  row-end zero p e = simp (walkRow, eq-eqb p 0 e)
-  row-end (suc f) p e = simp (walkRow, eq-eqb p 0 e)
-
-  pub row-out : (f p : ℕ) → f ≡ 0 → (p ≡ 0 → ⊥) → walkRow f next seen p ≡ stop seen
-  unfolding walkRow
-  row-out f p h n = rw h (simp (walkRow, ne-eqb p 0 n))
-
   pub row-high : (f p i : ℕ) → i ≡ p → (f ≡ 0 → ⊥) → (p ≡ 0 → ⊥) → slots < i → walkRow f next seen p ≡ stop seen
-  unfolding walkRow
-  row-high zero p i e h n k = absurd (h refl)
-  row-high (suc f) p i e h n k = simp (walkRow, ne-eqb p 0 n, lt-ltb slots p (omega arith))
+  row-high f p i e h n k = high next seen f p h n (omega arith)
 
   pub row-twice : (f p i : ℕ) → i ≡ p → (f ≡ 0 → ⊥) → (p ≡ 0 → ⊥) → i ≤ slots → (getD seen i 0 ≡ 0 → ⊥) → walkRow f next seen p ≡ stop seen
-  unfolding walkRow
-  row-twice zero p i e h n k m = absurd (h refl)
-  row-twice (suc f) p i e h n k m = simp (walkRow, ne-eqb p 0 n, le-ltb slots p (omega arith), ne-eqb (getD seen p 0) 0 (rw e at m))
+  row-twice f p i e h n k m = twice next seen f p h n (omega arith) (rw e at m)
 
   pub row-step : (f g p i q : ℕ) → i ≡ p → f ≡ suc g → (p ≡ 0 → ⊥) → i ≤ slots → getD seen i 0 ≡ 0 → getD next i 0 ≡ q
       → walkRow f next seen p ≡ walkRow g next (set seen i 1) q
-  unfolding walkRow
-  row-step f g p i q e h n k m d =
-      rw (h, ← d, e) (simp (walkRow, ne-eqb p 0 n, le-ltb slots p (omega arith), eq-eqb (getD seen p 0) 0 (rw e at m)))
+  row-step f g p i q e h n k m d = rw (← d, e) (step next seen f g p h n (omega arith) (rw e at m))
 
 -- no row is left; the next row's chain comes first
-pub rows-end : (next heads seen : List ℕ) (r : ℕ) → length heads ≤ r → walkRows next (drop r heads) seen ≡ done seen
+pub rows-end : (next heads seen : List ℕ) (r : ℕ) → length heads ≤ r → walkRows next (drop r heads) seen ≡ Ended seen
 unfolding walkRows
 rows-end next heads seen r h = rw drop-of-length-le
 
 pub rows-cons : (next heads seen : List ℕ) (r : ℕ) → r < length heads → walkRows next (drop r heads) seen ≡ after next (drop (r + 1) heads) (walkRow places next seen (getD heads r 0))
-unfolding walkRows after
+unfolding walkRows
 rows-cons next heads seen r h = rw (drop-cons heads r 0 h, add-one)
 
 -- what follows a chain that ended, and one that stopped
-pub after-end : (next hs seen : List ℕ) (w : Walk) → w ≡ done seen → after next hs w ≡ walkRows next hs seen
-unfolding after
+pub after-end : (next hs seen : List ℕ) (w : Walk) → w ≡ Ended seen → after next hs w ≡ walkRows next hs seen
 after-end next hs seen w e = rw e
 
 pub after-stop : (next hs seen : List ℕ) (w v : Walk) → after next hs w ≡ v → w ≡ stop seen → stop seen ≡ v
-unfolding after
 after-stop next hs seen w v e s = rw s at e
 
 -- the marks keep their number

@@ -8,14 +8,15 @@ use lib.ListN.{length, length-append, length-map, length-take}
 use lib.Dec.{eqb}
 use borrow.Author.Tests.{leb-true}
 use Rattle.types.specs.Limits.{stripes, partitions, places, writeLimit}
-use Rattle.rules.specs.Lists.{flat, any}
+use Rattle.rules.specs.Lists.{flat}
 use Rattle.rules.specs.Bools.{by, every-cons}
 use Rattle.rules.specs.Types.{Store, Tx, Write}
-use Rattle.rules.specs.Transaction.{writesOf, finalWrites, finals}
+use Rattle.rules.specs.Transaction.{writesOf, finals}
 use Rattle.rules.specs.Chains.{walk}
 use Rattle.rules.specs.Fit.{countsFit, fit}
 use Rattle.rules.specs.Puts.{putFree, putDrop, ownSlots, abortPuts}
 use Rattle.rules.specs.Changes.{Change, changes, destinations, sources, changedStripes, guardedStripes, guardedPartitions, indexGuards, partitionGuards, release, publishOne, insertions, removals, publication, recycled, recycling, stamping}
+use Rattle.laws.specs.Finals.{finals-few}
 use Rattle.laws.specs.Parts.{fit-parts}
 use Rattle.view.specs.Marks.{markedFrom, marked-few}
 use Rattle.commit.specs.Plan.Moves.{changedMarks, destinations-few, sources-few, changes-few}
@@ -46,12 +47,6 @@ module _ (S : Store) (long : length (S .xmin) ≤ places) where
 
   pub recycled-are : (x : Tx) → Marked (recycledMarks (S .xmin) (walk (S .heads) (S .next) .seen) x) (recycled S x) places
   recycled-are x = record { are = recycled-marked S x long; long = recycled-long (S .xmin) (walk (S .heads) (S .next) .seen) x }
-
-finals-few : (ws : List Write) → length (finalWrites ws) ≤ length ws
-finals-few [] = omega arith
-finals-few (w ∷ ws) =
-    let h = finals-few ws in
-    by (any (λ v. eqb (v .row .0) (w .row .0)) ws) (λ e. rw e (omega arith)) (λ e. rw e (omega arith))
 
 pub partition-guards-few : (x : Tx) (t : ℕ) → length (partitionGuards x t) ≤ partitions
 unfolding partitionGuards

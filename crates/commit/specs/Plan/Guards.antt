@@ -16,7 +16,8 @@ use Rattle.rules.specs.Transaction.{writesOf, readsOf, indexReadsOf}
 use Rattle.rules.specs.Fit.{fit, stripesApart}
 use Rattle.rules.specs.Changes.{Change, stripesIn, changedStripes, guardedStripes, guardedPartitions}
 use Rattle.laws.specs.Parts.{fit-parts}
-use Rattle.view.specs.Marks.{markAll, markedFrom, mark-length, mark-append, marks-in-order, order-marks, order-all, all-append}
+use Rattle.laws.specs.All.{all-append}
+use Rattle.view.specs.Marks.{markAll, markedFrom, mark-length, mark-append, marks-in-order, order-marks, order-all}
 use Rattle.commit.specs.Plan.Moves.{noStripes, stripesOf, changedMarks}
 
 -- the place of a guard

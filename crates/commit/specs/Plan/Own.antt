@@ -18,6 +18,7 @@ use Rattle.rules.specs.Transaction.{finals}
 use Rattle.rules.specs.Chains.{walk}
 use Rattle.rules.specs.Puts.{ownSlots}
 use Rattle.rules.specs.Changes.{recycled}
+use Rattle.laws.specs.Rising.{rising-less}
 use Rattle.view.specs.Lent.{atPlaces, array-cons, array-end}
 use Rattle.sight.specs.Slots.{ownSlot, own-slots}
 use Rattle.view.specs.Marks.{markAll, markedFrom, mark-length, marks-in-order}
@@ -52,13 +53,7 @@ module _ (xmin seen : List ℕ) (t i : ℕ) where
     unfolding ownFrom
     own-here n e f = rw (array-cons places 0 xmin i lt, ne-eqb (getD xmin i 0) 0 n, ← e, f, add-one)
 
--- rising lists: from a lower number on, filtered, in order
-rising-lower : (lo hi : ℕ) (l : List ℕ) → lo ≤ hi → rising hi l ≡ true → rising lo l ≡ true
-rising-lower lo hi [] h r = refl
-rising-lower lo hi (x ∷ l) h r =
-    let a = and-true (leb hi x) (rising (suc x) l) r in
-    and-both (leb lo x) (rising (suc x) l) (le-leb lo x (omega (arith, leb-true hi x (a .0)))) (a .1)
-
+-- rising lists, filtered and in order
 rising-those : (f : ℕ → Bool) (lo : ℕ) (l : List ℕ) → rising lo l ≡ true → rising lo (those f l) ≡ true
 rising-those f lo [] r = refl
 rising-those f lo (x ∷ l) r =
@@ -66,14 +61,14 @@ rising-those f lo (x ∷ l) r =
     let h = rising-those f (suc x) l (a .1) in
     by (f x)
     (λ e. rw e (and-both (leb lo x) (rising (suc x) (those f l)) (a .0) h))
-    (λ e. rw e (rising-lower lo (suc x) (those f l) (omega (arith, leb-true lo x (a .0))) h))
+    (λ e. rw e (rising-less lo (suc x) (those f l) (omega (arith, leb-true lo x (a .0))) h))
 
 rising-nonzero : (p : ℕ) (l : List ℕ) → rising p (nonzeroFrom p l) ≡ true
 rising-nonzero p [] = refl
 rising-nonzero p (x ∷ l) =
     let h = rising-nonzero (suc p) l in
     by (eqb x 0)
-    (λ e. rw e (rising-lower p (suc p) (nonzeroFrom (suc p) l) (omega arith) h))
+    (λ e. rw e (rising-less p (suc p) (nonzeroFrom (suc p) l) (omega arith) h))
     (λ e. rw e (and-both (leb p p) (rising (suc p) (nonzeroFrom (suc p) l)) (le-leb p p (omega arith)) h))
 
 rising-order : (lo : ℕ) (l : List ℕ) → rising lo l ≡ true → inOrder l ≡ l

@@ -9,7 +9,7 @@ returns : tie.Need-returns
 returns c =
     let s = c .before in
     let S = s .args .s in
-    answers-by-table S (s .args .x) (s .args .logged) (s .args .plan) (s .args .cut) (sized S (s .good .0)) (c .commit .ensures)
+    (c .commit .ensures, answers-by-table S (s .args .x) (s .args .logged) (s .args .plan) (s .args .cut) (sized S (s .good .0)) (c .commit .ensures))
 
 pub commit-by-table-spec : {M : Type 1} → statement M
 commit-by-table-spec = tie.close (tie.spec (λ c κs. search needs) returns)

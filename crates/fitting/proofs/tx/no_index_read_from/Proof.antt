@@ -1,6 +1,6 @@
 -- `no_index_read_from` meets its contract: what is left from place i on decides as the whole does.
 use mathlib.Core.Path.{_≡_}
-use Prim.Native.Nat.{_+_, _-_, _<_}
+use Prim.Native.Nat.{_-_}
 use native.Mathlib.Omega.{arith}
 use borrow.Author.Needs.{needs}
 use lib.ListN.{drop}

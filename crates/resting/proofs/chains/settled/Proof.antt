@@ -1,5 +1,4 @@
 -- `settled` meets its contract.
-use mathlib.Core.Path.{_≡_, _∙_}
 use borrow.Author.Needs.{needs}
 use Rattle.resting.specs.Used.{settledBy}
 use Rattle.resting.proofs.chains.settled.Statement.{statement}

@@ -1,6 +1,6 @@
 -- `postings_rise` meets its contract: what is left from place i on decides as the whole does.
 use mathlib.Core.Path.{_≡_}
-use Prim.Native.Nat.{suc, _+_, _-_, _<_, _≤_}
+use Prim.Native.Nat.{suc, _-_, _≤_}
 use native.Mathlib.Omega.{arith}
 use native.Mathlib.Numerals.{add-one}
 use borrow.Author.Needs.{needs}

@@ -2,7 +2,6 @@
 use Rattle.types.specs.Limits.{stripes}
 use Rattle.view.specs.Lent.{array-at, array-past}
 use mathlib.Core.Path.{sym}
-use Prim.Native.Nat.{_-_}
 use native.Mathlib.Omega.{arith}
 use borrow.Author.Needs.{needs}
 use Rattle.view.proofs.lent.stamp_at.Statement.{statement}

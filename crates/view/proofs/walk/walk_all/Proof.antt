@@ -11,7 +11,8 @@ use lib.ListN.{drop, length}
 use Rattle.types.specs.Limits.{rows, places, noMarks}
 use Rattle.rules.specs.Chains.{Walk, walk, walkRow, walkRows}
 use Rattle.view.specs.Lent.{atRows, atPlaces, array-length, array-at}
-use Rattle.view.specs.Walked.{after, row-end, row-out, row-high, row-twice, row-step, rows-end, rows-cons, after-end, after-stop}
+use Rattle.laws.specs.Walk.{after, row-end, row-out}
+use Rattle.view.specs.Walked.{row-high, row-twice, row-step, rows-end, rows-cons, after-end, after-stop}
 use Rattle.view.proofs.walk.walk_all.Statement.{statement}
 use Rattle.view.proofs.walk.walk_all.Tie as tie
 

@@ -7,10 +7,10 @@ use native.Mathlib.Omega.{arith}
 use lib.ListN.{length}
 use lib.Dec.{eqb, ltb, leb}
 use borrow.Author.Tests.{eqb-true, eqb-false, eq-eqb, ltb-true, ltb-false, leb-true, le-leb}
-use Rattle.rules.specs.Bools.{by, clash, iff, or-true, and-true, and-both, mem-here}
+use Rattle.rules.specs.Bools.{by, clash, iff, or-true, or-false, and-true, and-both, mem-here}
 use Rattle.rules.specs.Lists.{all, memb, same, rising, into, without, inOrder}
 use Rattle.laws.specs.Lists.{mem-those}
-use Rattle.index.specs.Bools.{or-same, or-swap, and-comm}
+use Rattle.laws.specs.Bools.{or-same, or-swap, and-comm}
 
 -- a rising list from a higher number on is one from a lower
 pub rising-less : (a b : ℕ) (l : List ℕ) → a ≤ b → rising b l ≡ true → rising a l ≡ true
@@ -147,3 +147,27 @@ without-length c [] = omega arith
 without-length c (y ∷ l) = by (eqb c y)
     (λ e. rw e (omega (arith, without-length c l)))
     (λ e. rw e (omega (arith, without-length c l)))
+
+-- a new one makes it longer by one
+pub length-into : (c : ℕ) (l : List ℕ) → memb c l ≡ false → length (into c l) ≡ suc (length l)
+length-into c [] n = refl
+length-into c (y ∷ l) n =
+    let o = or-false (eqb c y) (memb c l) n in
+    by (ltb c y) (λ e. rw e) (λ e. rw (e, o .0, length-into c l (o .1)))
+
+-- a test of all members, after one more and one less
+pub all-into : (f : ℕ → Bool) (c : ℕ) (l : List ℕ) → f c ≡ true → all f l ≡ true → all f (into c l) ≡ true
+all-into f c [] h k = rw h
+all-into f c (y ∷ l) h k =
+    let a = and-true (f y) (all f l) k in
+    by (ltb c y)
+    (λ e. rw (e, h) k)
+    (λ e. by (eqb c y)
+    (λ q. rw (e, q) k)
+    (λ q. rw (e, q, a .0) (all-into f c l h (a .1))))
+
+pub all-without : (f : ℕ → Bool) (c : ℕ) (l : List ℕ) → all f l ≡ true → all f (without c l) ≡ true
+all-without f c [] k = refl
+all-without f c (y ∷ l) k =
+    let a = and-true (f y) (all f l) k in
+    by (eqb c y) (λ e. rw e (all-without f c l (a .1))) (λ e. rw (e, a .0) (all-without f c l (a .1)))
