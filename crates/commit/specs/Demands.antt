@@ -20,7 +20,6 @@ use Rattle.laws.specs.Sized.{Sized}
 use Rattle.heart.specs.Recovery.{Keyed}
 use Rattle.index.specs.Table.{firstRow}
 use Rattle.index.specs.Numbers.{commitRows, doneRow}
-use Rattle.index.specs.Seen.{Leaves, Told}
 use Rattle.demands.specs.Demand1.{demand-1}
 use Rattle.demands.specs.Demand2.{Conflicts, Committed, demand-2, demand-2-leaves}
 use Rattle.demands.specs.Demand3.{Safe, demand-3}

@@ -15,7 +15,7 @@ use Rattle.rules.specs.Chains.{Walk, walk}
 use Rattle.rules.specs.Faults.{F, X, Q, faultAt, faultsOf}
 use Rattle.rules.specs.Fit.{fit}
 use Rattle.rules.specs.Commit.{count, strikes, runOf}
-use Rattle.rules.specs.Gates.{Gate, gates}
+use Rattle.rules.specs.Gates.{gates}
 use Rattle.journal.specs.Journal.{Holds}
 use Rattle.journal.specs.Adds.{Adds}
 use Rattle.view.specs.Walked.{walk-long}

@@ -12,11 +12,10 @@ use Rattle.types.specs.Zero.{zeroTx}
 use Rattle.rules.specs.Types.{Store, Tx, Schedule, Cut, Uncut, After, Answer, Closed, CutOff}
 use Rattle.rules.specs.Transaction.{finals}
 use Rattle.rules.specs.Puts.{Put, applyAll}
-use Rattle.rules.specs.Commit.{Run, runOf}
+use Rattle.rules.specs.Commit.{runOf}
 use Rattle.rules.specs.Answer.{noEvents, noRecord, uncut, cutOff, answer}
 use Rattle.journal.specs.Journal.{putLimit, puts, Holds}
 use Rattle.journal.specs.Holds.{holds-count, holds-cut}
-use Rattle.steps.specs.declared.ends.Ending.{Ending}
 use Rattle.asks.specs.Faults.{letters}
 use Rattle.steps.specs.Stops.{cleanGate, letterIn, gateOf}
 use Rattle.steps.specs.Answers.{recordIf, eventsBy}

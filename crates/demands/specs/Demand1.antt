@@ -9,7 +9,7 @@ use Prim.Native.Nat.{ℕ}
 use lib.ListN.{replicate}
 use Rattle.types.specs.Limits.{rows}
 use Rattle.types.specs.Zero.{zeroTx}
-use Rattle.rules.specs.Types.{Store, Tx, RowId, SlotPtr, Schedule, Cut, Value, Absent, Done, Open, NotRepairable}
+use Rattle.rules.specs.Types.{Store, Tx, Schedule, Cut, Value, Absent, Done, Open, NotRepairable}
 use Rattle.rules.specs.Admitted.{repairable}
 use Rattle.rules.specs.Numbers.{numberOf}
 use Rattle.rules.specs.Calls.{begin, read, write, asRow, lookup, rowLock, abort}

@@ -11,20 +11,20 @@ use borrow.Author.Tests.{eqb-true}
 use Rattle.types.specs.Limits.{rows, writeLimit}
 use Rattle.types.specs.Zero.{noWrite, onlyTxid}
 use Rattle.rules.specs.Lists.{memb, isZero, pad}
-use Rattle.rules.specs.Types.{Store, Tx, Txid, RowId, SlotPtr, Write, ReadRecord, IndexRead, Schedule, Record, Answer, Cut, Uncut, Value}
+use Rattle.rules.specs.Types.{Store, Tx, Schedule, Answer, Cut, Uncut}
 use Rattle.rules.specs.Store.{activeTxids, postingsOf}
 use Rattle.rules.specs.Transaction.{writesOf, readsOf, indexReadsOf, finalWrites, finals, emptied}
 use Rattle.rules.specs.Chains.{walk, on}
 use Rattle.rules.specs.Admitted.{headPostings, resting}
 use Rattle.rules.specs.Numbers.{numberOf, isDone}
-use Rattle.rules.specs.Puts.{Put, kStripe, kPartition, kInsert, kRemove, kXmax, kHead, kFree, kDrop, kStamp, kPoison, kDoom, putDrop, applyAll}
+use Rattle.rules.specs.Puts.{kStripe, kPartition, kInsert, kRemove, kXmax, kHead, kFree, kDrop, kStamp, kPoison, kDoom, putDrop, applyAll}
 use Rattle.rules.specs.Calls.{abort}
 use Rattle.rules.specs.Changes.{release, insertions, removals, publication, recycling, stamping}
 use Rattle.rules.specs.Commit.{runOf, fails, unloggedWrites}
 use Rattle.rules.specs.Answer.{uncut, commit}
 use Rattle.rules.specs.Bools.{clash, by, or-left}
 use Rattle.rules.specs.Only.{only, only-both, kept, is-not}
-use Rattle.rules.specs.Outcome.{conflicting, Passed, guardsTaken, afterInsert, afterRemove, afterPublish, afterRecycle, afterFinish, afterStamp, outcome}
+use Rattle.rules.specs.Outcome.{conflicting, guardsTaken, afterInsert, afterRemove, afterPublish, afterRecycle, afterFinish, afterStamp, outcome}
 use Rattle.rules.specs.TestLaws.{Some, LockedByAnother, Stale, either, index-reads-say, row-locks-say, serialization-says, write-bases-say}
 use Rattle.rules.specs.Rows.{Admitted, success, whole, only-done}
 use Rattle.rules.specs.Aftermath.{row-0}
@@ -33,11 +33,10 @@ use Rattle.index.specs.Kinds.{taken-kinds, release-kinds, insertions-kind, remo
 use Rattle.index.specs.Healthy.{row-0-exact}
 use Rattle.heart.specs.Shown.{shown, withNew}
 use Rattle.heart.specs.Ways.{stands}
-use Rattle.heart.specs.Live.{Shows}
 use Rattle.heart.specs.Sizes.{sized-all}
 use Rattle.heart.specs.Start.{txid-positive, shows-heads}
-use Rattle.heart.specs.Meaning.{Mends, Stands, ActiveForm, OffForm, marks}
-use Rattle.heart.specs.Resting.{Rests, rests}
+use Rattle.heart.specs.Meaning.{marks}
+use Rattle.heart.specs.Resting.{rests}
 use Rattle.heart.specs.Recovery.{Keyed}
 use Rattle.heart.specs.Again.{commit-rests, stood}
 use Rattle.keeps.specs.Active.{unfinished-is}

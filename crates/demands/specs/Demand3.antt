@@ -10,7 +10,7 @@ use lib.Dec.{eqb, leb}
 use borrow.Author.Tests.{leb-false, lt-leb}
 use Rattle.types.specs.Limits.{rows}
 use Rattle.rules.specs.Lists.{memb}
-use Rattle.rules.specs.Types.{Store, Tx, Txid, RowId, SlotPtr, Write, Schedule, Answer, Cut, Uncut, After, Value, Open, Closed, Refusal, Done, Unfit, NotActive}
+use Rattle.rules.specs.Types.{Store, Tx, Write, Schedule, Answer, Cut, Uncut, After, Value, Open, Closed, Refusal, Done, Unfit, NotActive}
 use Rattle.rules.specs.Store.{valueAt, activeTxids}
 use Rattle.rules.specs.Transaction.{finals}
 use Rattle.rules.specs.Admitted.{repairable, resting}

@@ -10,7 +10,7 @@ use borrow.Author.Tests.{eqb-true, eq-eqb}
 use Rattle.types.specs.Zero.{noFault}
 use Rattle.rules.specs.Lists.{memb}
 use Rattle.rules.specs.Types.{Fault, Schedule}
-use Rattle.rules.specs.Faults.{F, Allowed, may, table, allowed, stepsApart, faultsOf, scheduleFit}
+use Rattle.rules.specs.Faults.{F, may, table, allowed, stepsApart, faultsOf, scheduleFit}
 use Rattle.rules.specs.TestLaws.{either, both, differ}
 use Rattle.laws.specs.Lists.{pairs}
 use Rattle.fits.specs.Lists.{each-place, each-pair}

@@ -10,7 +10,7 @@ use borrow.Author.Tests.{leb-true, le-leb, ltb-true, lt-ltb, not-true}
 use Rattle.types.specs.Limits.{rows, slots, stripes, activeLimit, writeLimit, readLimit, indexReadLimit, savepointLimit}
 use Rattle.types.specs.Zero.{noWrite, noRead, noIndexRead}
 use Rattle.rules.specs.Lists.{all, every, memb, isZero}
-use Rattle.rules.specs.Types.{Store, Tx, Txid, RowId, SlotPtr, Write, ReadRecord, IndexRead}
+use Rattle.rules.specs.Types.{Store, Tx, Write, ReadRecord, IndexRead}
 use Rattle.rules.specs.Transaction.{writesOf, readsOf, indexReadsOf, savepointsOf}
 use Rattle.rules.specs.Chains.{walk, on}
 use Rattle.rules.specs.Fit.{countsFit, readFit, writesApart, stripesApart, fit}
@@ -18,7 +18,6 @@ use Rattle.rules.specs.Bools.{clash, by, every-cons, cons-every, every-none}
 use Rattle.rules.specs.TestLaws.{either, both, differ}
 use Rattle.laws.specs.Lists.{pairs}
 use Rattle.laws.specs.Sized.{Sized}
-use Rattle.laws.specs.Chained.{Chained}
 use Rattle.heart.specs.Meaning.{Mends, Off, marks}
 use Rattle.fits.specs.Lists.{each-place, each-pair, not-falling}
 use Rattle.fits.specs.Schedule.{same-number}

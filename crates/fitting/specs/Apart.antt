@@ -1,7 +1,7 @@
 -- Lists of which each member differs from all later ones.
 use mathlib.Core.Path.{_≡_}
 use mathlib.Core.Bool.{Bool, true, false}
-use mathlib.Core.List.{List, []}
+use mathlib.Core.List.{List}
 use Prim.Native.Nat.{ℕ, _+_, _<_, _≤_}
 use lib.ListN.{getD, take, drop}
 use Rattle.rules.specs.Lists.{all}

@@ -10,7 +10,7 @@ use Rattle.types.specs.Limits.{activeLimit}
 use Rattle.types.specs.Zero.{onlyTxid}
 use Rattle.rules.specs.Bools.{clash}
 use Rattle.rules.specs.Lists.{memb, pad}
-use Rattle.rules.specs.Types.{Store, Tx, Txid, Schedule, Cut}
+use Rattle.rules.specs.Types.{Store, Tx, Schedule, Cut}
 use Rattle.rules.specs.Store.{activeTxids}
 use Rattle.rules.specs.Chains.{walk, on}
 use Rattle.rules.specs.Admitted.{resting}

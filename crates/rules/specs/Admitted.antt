@@ -8,7 +8,7 @@ use Rattle.types.specs.Limits.{slots, places}
 use Rattle.rules.specs.Lists.{all, every, eachOr, memb, same, allZero, isZero, nonzero, into}
 use Rattle.rules.specs.Types.{Store}
 use Rattle.rules.specs.Store.{usedSlots, slotsInForm, posting, postingsOf, postingsInForm, activeInForm}
-use Rattle.rules.specs.Chains.{chainFrom, Walk, walk, on}
+use Rattle.rules.specs.Chains.{chainFrom, walk, on}
 
 -- "Unfinished" means active or doomed. Finished is neither; 0, no txid, counts as finished.
 unfoldable pub finished : List ℕ → ℕ → ℕ → Bool

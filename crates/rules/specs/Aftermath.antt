@@ -9,7 +9,7 @@ use Rattle.types.specs.Limits.{writeLimit}
 use Rattle.types.specs.Zero.{noWrite, onlyTxid}
 use Rattle.rules.specs.Bools.{clash, by, or-right}
 use Rattle.rules.specs.Lists.{isZero, pad}
-use Rattle.rules.specs.Types.{Store, Tx, Txid, Schedule, Record, Answer, Cut, Uncut, After, Fate, Closed, Undone, Standing, Refusal}
+use Rattle.rules.specs.Types.{Store, Tx, Schedule, Answer, Cut, Uncut, After, Fate, Closed, Undone, Standing, Refusal}
 use Rattle.rules.specs.Transaction.{finals, noWrites, noAccesses, emptied}
 use Rattle.rules.specs.Admitted.{resting}
 use Rattle.rules.specs.Numbers.{numberOf, fateIn, fate, isDone}

@@ -1,12 +1,12 @@
 -- "Numbers seen": what commit answers. Record, events, number of stores, cuts, and the refusals before the steps.
 use mathlib.Core.Bool.{Bool, false, not, cond, _&&_, _||_}
-use mathlib.Core.List.{List, [], _∷_}
+use mathlib.Core.List.{[], _∷_}
 use Prim.Native.Nat.{ℕ}
 use lib.ListN.{length, take, replicate}
 use lib.Dec.{ltb, leb}
 use Rattle.types.specs.Limits.{writeLimit}
 use Rattle.rules.specs.Lists.{memb, pad}
-use Rattle.rules.specs.Types.{Store, Tx, Txid, Schedule, Record, Events, Answer, Cut, Uncut, After, Open, Closed, Refusal, Done, NotResting, Unfit, NotActive, CutOff}
+use Rattle.rules.specs.Types.{Store, Tx, Schedule, Record, Events, Answer, Cut, Uncut, After, Open, Closed, Refusal, Done, NotResting, Unfit, NotActive, CutOff}
 use Rattle.types.specs.Zero.{noWrite, zeroTx}
 use Rattle.rules.specs.Store.{activeTxids}
 use Rattle.rules.specs.Transaction.{finals}

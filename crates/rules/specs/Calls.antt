@@ -6,7 +6,7 @@ use lib.ListN.{length, getD, drop, replicate}
 use lib.Dec.{eqb, ltb, leb}
 use Rattle.types.specs.Limits.{rows, activeLimit, writeLimit, readLimit, clockEnd, places}
 use Rattle.rules.specs.Lists.{any, memb, those, pad, inOrder, firstOf, firstZero}
-use Rattle.rules.specs.Types.{Store, Tx, Txid, RowId, SlotPtr, Write, ReadRecord, IndexRead, Reply, Seen, Written, Found, Value, Absent, Key, Open, Closed}
+use Rattle.rules.specs.Types.{Store, Tx, RowId, ReadRecord, IndexRead, Reply, Seen, Written, Found, Value, Absent, Key, Open, Closed}
 use Rattle.rules.specs.Types.{Refusal, NotResting, Unfit, NotActive, FoundPoisoned, ActiveFull, ClockAtEnd, RowTooHigh, ReadsFull, WritesFull, SlotsFull, LockedByAnother, NoHead}
 use Rattle.types.specs.Zero.{onlyTxid, zeroTx}
 use Rattle.rules.specs.Store.{valueAt, sameValue, keyOf, rowOf, stripeOf, postingsOf, activeTxids}

@@ -4,7 +4,7 @@ use mathlib.Core.List.{List, [], _∷_, _++_, map}
 use Prim.Native.Nat.{ℕ}
 use lib.Dec.{eqb}
 use Rattle.rules.specs.Lists.{those, flat, memb, inOrder}
-use Rattle.rules.specs.Types.{Store, Tx, Txid, RowId, SlotPtr, Write, ReadRecord, IndexRead, Value, Absent, Key}
+use Rattle.rules.specs.Types.{Store, Tx, Write, Value, Absent, Key}
 use Rattle.rules.specs.Store.{posting, valueAt, sameValue, stripeOf, partitionOf}
 use Rattle.rules.specs.Transaction.{writesOf, readsOf, indexReadsOf, finals}
 use Rattle.rules.specs.Puts.{Put, putStripe, putPartition, putInsert, putRemove, putXmax, putHead, putFree, putStamp, ownSlots}

@@ -4,7 +4,7 @@ use mathlib.Core.List.{List, [], _∷_, _++_, map, reverse}
 use Prim.Native.Nat.{ℕ, suc}
 use lib.ListN.{length, take}
 use lib.Dec.{eqb, ltb}
-use Rattle.rules.specs.Types.{Store, Tx, Txid, Fault, Schedule, Fate, Open, Undone, Standing}
+use Rattle.rules.specs.Types.{Store, Tx, Schedule, Fate, Open, Undone, Standing}
 use Rattle.rules.specs.Types.{Refusal, Done, StepFailed, PrepareFailed, PreparePanicked, Conflict, BoundDurably, FoundPoisoned, InsertFailed, CallbackFailed, CallbackPanicked, RemoveFailed, PublishFailed, RecycleFailed, FinishFailed, StampFailed, CleanupFailed}
 use Rattle.types.specs.Zero.{onlyTxid}
 use Rattle.rules.specs.Transaction.{finals, noWrites, noAccesses, emptied}

@@ -13,9 +13,9 @@ use Rattle.rules.specs.Types.{Store, Tx, Schedule, Events, Answer, Cut, 
 use Rattle.rules.specs.Transaction.{finals}
 use Rattle.rules.specs.Numbers.{numberOf, isDone}
 use Rattle.rules.specs.Puts.{Put}
-use Rattle.rules.specs.Commit.{End, Clean, Run, runOf}
+use Rattle.rules.specs.Commit.{End, runOf}
 use Rattle.rules.specs.Answer.{eventsOf, noEvents, uncut, cutOff, answer, commit}
-use Rattle.rules.specs.Outcome.{Passed, aborting, worse, undoing, Spoil, unremoved, unpublished, unrecycled, unfinished, Outcome, done, stays, aborts, uninserted, uncalled, spoils, unstamped, outcome}
+use Rattle.rules.specs.Outcome.{aborting, worse, undoing, Spoil, unremoved, unpublished, unrecycled, unfinished, Outcome, done, stays, aborts, uninserted, uncalled, spoils, unstamped, outcome}
 use Rattle.rules.specs.Rows.{every-commit, stay-not, abort-not, called-not, spoil-not}
 
 -- 000's definitions, word for word

@@ -6,7 +6,7 @@ use lib.ListN.{getD, drop}
 use lib.Dec.{eqb, ltb, leb}
 use Rattle.types.specs.Limits.{rows, slots, stripes, activeLimit, writeLimit, readLimit, indexReadLimit, savepointLimit}
 use Rattle.rules.specs.Lists.{all, every, allZero, nonFalling}
-use Rattle.rules.specs.Types.{Store, Tx, Txid, RowId, SlotPtr, Write, ReadRecord, IndexRead}
+use Rattle.rules.specs.Types.{Store, Tx, Write, ReadRecord, IndexRead}
 use Rattle.rules.specs.Store.{used}
 use Rattle.rules.specs.Transaction.{writesOf, readsOf, indexReadsOf, savepointsOf}
 use Rattle.rules.specs.Chains.{walk, on}

@@ -1,6 +1,6 @@
 -- Guards taken and let go leave a store as it was.
 use mathlib.Core.Path.{_≡_, refl, sym, ap, _∙_}
-use mathlib.Core.Bool.{Bool, true, false}
+use mathlib.Core.Bool.{true, false}
 use mathlib.Core.List.{List, [], _∷_, _++_, map, append-assoc}
 use Prim.Native.Nat.{ℕ, zero, suc}
 use lib.ListN.{length, getD, set, length-set}
@@ -9,7 +9,7 @@ use lib.Dec.{eqb}
 use borrow.Author.Tests.{eqb-true, eqb-false}
 use Rattle.rules.specs.Bools.{and-true, or-false, by, every-cons}
 use Rattle.rules.specs.Lists.{allZero, memb}
-use Rattle.rules.specs.Types.{Store, Tx, Txid}
+use Rattle.rules.specs.Types.{Store, Tx}
 use Rattle.rules.specs.Admitted.{resting}
 use Rattle.rules.specs.Puts.{Put, putStripe, putPartition, apply, applyAll}
 use Rattle.rules.specs.Changes.{changes, guardedStripes, guardedPartitions, indexGuards, partitionGuards, release}

@@ -7,7 +7,7 @@ use Prim.Native.Nat.{ℕ, suc, _+_}
 use native.Mathlib.Nat.{add-zero, add-suc, suc-add, zero-add}
 use lib.ListN.{take}
 use lib.Dec.{eqb, leb}
-use Rattle.rules.specs.Types.{Store, Tx, Txid, Schedule, Fate, Open, Standing, Undone, Refusal, StepFailed, PrepareFailed, PreparePanicked, Conflict, BoundDurably, FoundPoisoned, InsertFailed, CallbackFailed, CallbackPanicked, RemoveFailed, PublishFailed, RecycleFailed, FinishFailed, StampFailed, CleanupFailed}
+use Rattle.rules.specs.Types.{Store, Tx, Schedule, Fate, Open, Standing, Undone, Refusal, StepFailed, PrepareFailed, PreparePanicked, Conflict, BoundDurably, FoundPoisoned, InsertFailed, CallbackFailed, CallbackPanicked, RemoveFailed, PublishFailed, RecycleFailed, FinishFailed, StampFailed, CleanupFailed}
 use Rattle.rules.specs.Bools.{clash, by, and-true, or-false}
 use Rattle.rules.specs.Transaction.{noWrites, noAccesses, emptied}
 use Rattle.rules.specs.Faults.{F, B, P, X, Q}
@@ -15,7 +15,7 @@ use Rattle.rules.specs.Numbers.{fate}
 use Rattle.rules.specs.Puts.{Put, putDrop, putPoison, putDoom}
 use Rattle.rules.specs.Tests.{indexReadConflict, rowLockConflict, serializationConflict, writeBaseConflict}
 use Rattle.rules.specs.Changes.{changes, destinations, indexGuards, partitionGuards, release, insertions, removals, publication, recycling, stamping}
-use Rattle.rules.specs.Commit.{End, ending, Step, goes, ends, stopIf, Clean, strikes, fails, count, abortOrPoison, rollback, unloggedWrites, finish, indexChangesMade, indexLockKeys, prepareCommitRecord, runPrepare, acquireIndexLocks, acquirePartitionLocks, ensureUnloggedWriteAllowed, checkNotPoisoned, prepareIndexDestinations, invokeBeforePublish, removeIndexSources, publishWriteSet, recycleNonFinalWrites, finishTransaction, publishIndexStamps, steps, Run, run, committed, runOf}
+use Rattle.rules.specs.Commit.{End, ending, Step, goes, ends, stopIf, Clean, strikes, fails, count, abortOrPoison, rollback, unloggedWrites, finish, indexChangesMade, indexLockKeys, prepareCommitRecord, runPrepare, acquireIndexLocks, acquirePartitionLocks, ensureUnloggedWriteAllowed, checkNotPoisoned, prepareIndexDestinations, invokeBeforePublish, removeIndexSources, publishWriteSet, recycleNonFinalWrites, finishTransaction, publishIndexStamps, steps, run, committed, runOf}
 
 -- after n steps and the stores `made`, the steps end as Q says
 pub data Follows (Q : ℕ → List Put → End → Type 0) (e : End) : ℕ → List Put → List Step → Type 0 where

@@ -7,13 +7,13 @@ use lib.ListN.{take}
 use lib.Dec.{eqb}
 use Rattle.rules.specs.Bools.{by}
 use Rattle.rules.specs.Lists.{allZero, flat, memb}
-use Rattle.rules.specs.Types.{Store, Tx, Txid, RowId, SlotPtr, Write, Schedule, Cut, Fate, Refusal}
+use Rattle.rules.specs.Types.{Store, Tx, Write, Schedule, Cut, Fate, Refusal}
 use Rattle.rules.specs.Transaction.{finals}
 use Rattle.rules.specs.Admitted.{resting}
 use Rattle.rules.specs.Numbers.{numberOf}
 use Rattle.rules.specs.Puts.{Put, kStripe, kPartition, kInsert, kRemove, kXmax, kHead, kFree, kDrop, kStamp, kPoison, kDoom, sets, putInsert, putRemove, putXmax, putHead, putFree, putDrop, putStamp, putPoison, putDoom, applyAll, ownSlots, abortPuts}
 use Rattle.rules.specs.Changes.{changes, destinations, sources, changedStripes, recycled, publishOne, release, insertions, removals, publication, recycling, stamping}
-use Rattle.rules.specs.Commit.{End, Clean, poison, fails, count, finish, abortOrPoison, rollback}
+use Rattle.rules.specs.Commit.{End, poison, fails, count, finish, abortOrPoison, rollback}
 use Rattle.rules.specs.Answer.{uncut, commit}
 use Rattle.rules.specs.Only.{only, only-both, only-map, only-take, only-if, kept, is-not}
 use Rattle.rules.specs.Guards.{applyAll-append, guards-zero, both-back}

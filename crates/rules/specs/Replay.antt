@@ -6,7 +6,7 @@ use lib.ListN.{getD, set, replicate}
 use lib.Dec.{ltb}
 use Rattle.types.specs.Limits.{placeLimit, faultLimit}
 use Rattle.rules.specs.Lists.{pad}
-use Rattle.rules.specs.Types.{Store, Tx, Txid, SlotPtr, Fault, Schedule, Answer, Reply, Seen, Written, Found, Mended, Value, Absent, Key, Cut}
+use Rattle.rules.specs.Types.{Store, Tx, Fault, Schedule, Value, Absent, Key, Cut}
 use Rattle.types.specs.Zero.{fresh, zeroTx, noFault, noFaults}
 use Rattle.rules.specs.Faults.{faultsOf}
 use Rattle.rules.specs.Numbers.{numberOf, isDone}

@@ -8,7 +8,7 @@ use lib.ListN.{length, length-append, length-map}
 use lib.Dec.{eqb, ltb}
 use Rattle.rules.specs.Bools.{clash, by, and-true}
 use Rattle.rules.specs.Lists.{those, flat, memb, isZero}
-use Rattle.rules.specs.Types.{Store, Tx, Txid, SlotPtr, Write, Schedule, Answer, Cut, Uncut, After, Fate, Open, Closed, Refusal, NotResting, Unfit, NotActive, Conflict, CleanupFailed, CallbackFailed, CallbackPanicked}
+use Rattle.rules.specs.Types.{Store, Tx, Write, Schedule, Answer, Cut, Uncut, After, Fate, Open, Closed, Refusal, NotResting, Unfit, NotActive, Conflict, CleanupFailed, CallbackFailed, CallbackPanicked}
 use Rattle.rules.specs.Store.{activeTxids}
 use Rattle.rules.specs.Transaction.{finals}
 use Rattle.rules.specs.Admitted.{resting}
@@ -17,7 +17,7 @@ use Rattle.rules.specs.Faults.{F, scheduleFit}
 use Rattle.rules.specs.Numbers.{numberOf, fateIn, fate, isDone}
 use Rattle.rules.specs.Puts.{Put, applyAll}
 use Rattle.rules.specs.Changes.{changes, destinations, sources, changedStripes, guardedStripes, guardedPartitions, indexGuards, partitionGuards, release, publishOne, publication, insertions, removals, recycled, recycling, stamping}
-use Rattle.rules.specs.Commit.{End, Clean, Run, runOf, strikes, fails, unloggedWrites}
+use Rattle.rules.specs.Commit.{End, runOf, strikes, fails, unloggedWrites}
 use Rattle.rules.specs.Answer.{uncut, cutOff, answer, unchanged, commit}
 use Rattle.rules.specs.Guards.{guards-zero, index-back, both-back}
 use Rattle.rules.specs.Outcome.{Struck, struck, Taken, neither, index, both, Stay, faulted, durable, conflicting, Abort, unprepared, panicked, busy, conflict, unhealthy, Passed, Spoil, unremoved, unpublished, unrecycled, unfinished, afterStamp, aborting, worse, panics, abortingLate, bad, Outcome, done, stays, aborts, uninserted, uncalled, spoils, unstamped, outcome}

@@ -5,7 +5,7 @@ use Prim.Native.Nat.{ℕ, zero, suc, _+_, _-_, _*_, _/_, _%_}
 use lib.Dec.{eqb, ltb, leb}
 use Rattle.types.specs.Limits.{keyEnd, placeLimit}
 use Rattle.rules.specs.Lists.{all}
-use Rattle.rules.specs.Types.{Value, Absent, Key, Cut, Uncut, After}
+use Rattle.rules.specs.Types.{Value, Absent, Key, Uncut, After}
 use Rattle.rules.specs.Replay.{Line, lineB, lineR, lineW, lineL, lineK, lineA, lineC, lineF, lineV, lineBad, Third, num, dash, Out, replay}
 
 abbrev pub Bytes : Type 0

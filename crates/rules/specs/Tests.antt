@@ -1,11 +1,11 @@
 -- The four tests of commit, each "to the first yes".
 use mathlib.Core.Bool.{Bool, not, _&&_, _||_}
-use mathlib.Core.List.{List, []}
+use mathlib.Core.List.{List}
 use Prim.Native.Nat.{ℕ}
 use lib.ListN.{getD}
 use lib.Dec.{eqb, leb}
 use Rattle.rules.specs.Lists.{any, memb}
-use Rattle.rules.specs.Types.{Store, Tx, Txid, Write, ReadRecord, IndexRead}
+use Rattle.rules.specs.Types.{Store, Tx, ReadRecord}
 use Rattle.rules.specs.Transaction.{writesOf, readsOf, indexReadsOf, snapshotOf, finalWrites}
 use Rattle.rules.specs.Calls.{lockedByAnother}
 

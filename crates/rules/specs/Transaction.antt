@@ -6,7 +6,7 @@ use lib.ListN.{length, take}
 use lib.Dec.{eqb, ltb}
 use Rattle.types.specs.Limits.{writeLimit, readLimit, indexReadLimit, savepointLimit}
 use Rattle.rules.specs.Lists.{memb, any, pad}
-use Rattle.rules.specs.Types.{Tx, Txid, RowId, SlotPtr, Write, ReadRecord, IndexRead}
+use Rattle.rules.specs.Types.{Tx, Write, ReadRecord, IndexRead}
 use Rattle.types.specs.Zero.{noWrite, noRead, noIndexRead}
 
 abbrev pub writesOf : Tx → List Write

@@ -5,9 +5,6 @@ use lib.ListN.{replicate}
 use Rattle.types.specs.Limits.{rows, places, postingLimit, stripes, partitions, activeLimit, writeLimit, readLimit, indexReadLimit, savepointLimit, faultLimit}
 use Rattle.types.specs.declared.Store.{Store}
 use Rattle.types.specs.declared.Tx.{Tx}
-use Rattle.types.specs.declared.Txid.{Txid}
-use Rattle.types.specs.declared.RowId.{RowId}
-use Rattle.types.specs.declared.SlotPtr.{SlotPtr}
 use Rattle.types.specs.declared.Write.{Write}
 use Rattle.types.specs.declared.ReadRecord.{ReadRecord}
 use Rattle.types.specs.declared.IndexRead.{IndexRead}

@@ -9,7 +9,7 @@ use lib.Seq.{getD-set-same, getD-set-other}
 use lib.Dec.{eqb, ltb}
 use borrow.Author.Tests.{eqb-true, eqb-false, eq-eqb, ltb-true}
 use Rattle.types.specs.Limits.{rows}
-use Rattle.rules.specs.Types.{Store, Tx, Txid, RowId, Write, Schedule, Value, Absent, Key}
+use Rattle.rules.specs.Types.{Store, Tx, Write, Schedule, Value, Absent, Key}
 use Rattle.rules.specs.Bools.{by, clash, and-true, and-both, or-true, or-left, or-right, mem-here, mem-there}
 use Rattle.rules.specs.Lists.{all, flat, memb}
 use Rattle.rules.specs.Store.{posting, keyOf, stripeOf, partitionOf, sameValue}

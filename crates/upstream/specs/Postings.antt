@@ -15,7 +15,7 @@ use Rattle.rules.specs.Lists.{all, memb, into, without}
 use Rattle.rules.specs.Store.{postingsOf}
 use Rattle.rules.specs.Puts.{putInsert, putRemove, putPoison, apply, applyAll}
 use Rattle.rules.specs.Changes.{changes, destinations, sources, insertions, removals}
-use Rattle.rules.specs.Commit.{Clean, fails, rollback}
+use Rattle.rules.specs.Commit.{fails, rollback}
 use Rattle.laws.specs.Lists.{all-mem, mem-all}
 use Rattle.laws.specs.Beside.{beside}
 use Rattle.laws.specs.Abort.{rollback-flag}

@@ -10,7 +10,7 @@ use lib.Seq.{take-all}
 use lib.Dec.{eqb}
 use borrow.Author.Tests.{eqb-true}
 use Rattle.types.specs.Limits.{rows}
-use Rattle.rules.specs.Types.{Store, Tx, Txid, SlotPtr, RowId, Write}
+use Rattle.rules.specs.Types.{Store, Tx, Write}
 use Rattle.rules.specs.Bools.{by, and-true}
 use Rattle.rules.specs.Lists.{all, flat, memb}
 use Rattle.rules.specs.Store.{postingsOf}
@@ -24,19 +24,17 @@ use Rattle.rules.specs.Only.{kept, is-not}
 use Rattle.rules.specs.Guards.{applyAll-append}
 use Rattle.laws.specs.Sized.{Sized}
 use Rattle.laws.specs.Chain.{IsChain}
-use Rattle.laws.specs.Chained.{Chains}
 use Rattle.laws.specs.Check.{Tail}
 use Rattle.laws.specs.Finals.{finals-all}
-use Rattle.laws.specs.Parts.{WriteFit, write-parts, Fit, fit-parts}
+use Rattle.laws.specs.Parts.{write-parts, fit-parts}
 use Rattle.laws.specs.Published.{publish-only}
 use Rattle.laws.specs.All.{all-then}
 use Rattle.index.specs.Resting.{Exact}
 use Rattle.index.specs.Undone.{Ready}
 use Rattle.index.specs.Exact.{postings-kept, changed-exact}
-use Rattle.heart.specs.Meaning.{Mends, Stands, SlotForm, Free}
-use Rattle.heart.specs.Resting.{Rests, rests}
+use Rattle.heart.specs.Resting.{rests}
 use Rattle.heart.specs.Start.{tails}
-use Rattle.upstream.specs.Postings.{Moved, ds, ss, P, removes-all}
+use Rattle.upstream.specs.Postings.{ds, ss, P, removes-all}
 
 -- 002's `publication_prefix`, word for word: phase 0 is nothing, 1 the base marked, 2 the new version linked, 3 the head moved
 abbrev pub marked : Store → Write → ℕ → Store

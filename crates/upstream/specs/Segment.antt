@@ -12,11 +12,11 @@ use Rattle.rules.specs.Bools.{by, clash, or-true, or-left, or-right}
 use Rattle.rules.specs.Numbers.{numberOf, fateIn}
 use Rattle.rules.specs.Puts.{Put, kPoison, kDoom, is, putRemove, putPoison, applyAll}
 use Rattle.rules.specs.Changes.{changes, destinations, insertions, release}
-use Rattle.rules.specs.Commit.{End, Clean, fails, count, rollback}
+use Rattle.rules.specs.Commit.{End, fails, count, rollback}
 use Rattle.rules.specs.Answer.{uncut, commit}
 use Rattle.rules.specs.Outcome.{guardsTaken, Outcome, done, stays, aborts, uninserted, uncalled, spoils, unstamped, outcome}
 use Rattle.rules.specs.Rows.{Admitted, whole, stay-not, abort-not, called-not, spoil-not}
-use Rattle.rules.specs.Aftermath.{Left, row-13-17}
+use Rattle.rules.specs.Aftermath.{row-13-17}
 use Rattle.laws.specs.Sized.{Sized}
 use Rattle.index.specs.Rolled.{row-10}
 use Rattle.index.specs.Healthy.{poisons, poisoned-after}

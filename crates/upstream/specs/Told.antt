@@ -12,7 +12,7 @@ use Rattle.rules.specs.Types.{Store, Tx, Schedule, Events, Cut, Done}
 use Rattle.rules.specs.Transaction.{finals}
 use Rattle.rules.specs.Numbers.{numberOf}
 use Rattle.rules.specs.Puts.{Put}
-use Rattle.rules.specs.Commit.{End, Clean, unloggedWrites, Run, runOf}
+use Rattle.rules.specs.Commit.{End, unloggedWrites, Run, runOf}
 use Rattle.rules.specs.Outcome.{aborting, rollingBack, worse, undoing, abortingLate}
 use Rattle.rules.specs.Gates.{Gate, first, hit, gates, clean, run-gates}
 use Rattle.rules.specs.Answer.{eventsOf, uncut, commit}

@@ -9,10 +9,9 @@ use Rattle.rules.specs.Types.{Store, Tx, Value, Absent, Key, Written, Uncut}
 use Rattle.rules.specs.Store.{posting, postingsOf, valueAt}
 use Rattle.rules.specs.Numbers.{numberOf}
 use Rattle.rules.specs.Calls.{begin, write}
-use Rattle.rules.specs.Changes.{Change, changes}
+use Rattle.rules.specs.Changes.{changes}
 use Rattle.rules.specs.Answer.{commit}
 use Rattle.rules.specs.Computing.{computing}
-use Rattle.rules.specs.Rows.{Admitted}
 use Rattle.rules.specs.Tests.{writeBaseConflict}
 use Rattle.index.specs.Undone.{Ready}
 use Rattle.demands.specs.Exhibits.{Meets, meets}
