@@ -1,4 +1,4 @@
-//! Finds the archive that `rt staticlib desk` writes, and says what to do where it can't be linked.
+//! Finds the archive that `rt staticlib replay_core` writes, and says what to do where it can't be linked.
 
 use std::env;
 use std::path::{Path, PathBuf};
@@ -8,13 +8,13 @@ fn main() {
     match archive_dir() {
         Ok(dir) => {
             println!("cargo::rustc-link-search=native={}", dir.display());
-            println!("cargo::rustc-link-lib=static=desk");
+            println!("cargo::rustc-link-lib=static=replay_core");
         }
         Err(why) => println!("cargo::error={why}"),
     }
 }
 
-/// The folder of `libdesk.a`: `SLACK_LIB_DIR`, else `target/staticlib` of the repository.
+/// The folder of `libreplay_core.a`: `SLACK_LIB_DIR`, else `target/staticlib` of the repository.
 fn archive_dir() -> Result<PathBuf, String> {
     let target = env::var("TARGET").expect("cargo names the target");
     if !(target.starts_with("x86_64-") && target.contains("-linux-")) {
@@ -27,11 +27,11 @@ fn archive_dir() -> Result<PathBuf, String> {
         Some(dir) => PathBuf::from(dir),
         None => Path::new(env!("CARGO_MANIFEST_DIR")).join("../../target/staticlib"),
     };
-    let archive = dir.join("libdesk.a");
+    let archive = dir.join("libreplay_core.a");
     println!("cargo::rerun-if-changed={}", archive.display());
     if !archive.is_file() {
         return Err(format!(
-            "there is no {}: run 'rt staticlib desk' in the repository, or name the archive's folder by SLACK_LIB_DIR",
+            "there is no {}: run 'rt staticlib replay_core' in the repository, or name the archive's folder by SLACK_LIB_DIR",
             archive.display()
         ));
     }

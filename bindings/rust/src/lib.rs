@@ -1,6 +1,6 @@
 //! The slack table store's replay for Rust callers: a script of calls in, an answer a line out.
 //!
-//! The work is done by `crates/desk`, whose functions are proved to meet their contracts
+//! The work is done by `crates/replay_core`, whose functions are proved to meet their contracts
 //! (`docs/DECISIONS.md`). What the proof can't see is this file: that the two functions are declared
 //! as they are exported, and called with what a Rust slice guarantees.
 

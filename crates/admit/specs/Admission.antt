@@ -3,7 +3,7 @@ use mathlib.Core.Path.{_≡_, refl}
 use mathlib.Core.Bool.{Bool, true, false, not, _&&_, and-true}
 use mathlib.Core.List.{[], _∷_}
 use Rattle.rules.specs.Lists.{memb}
-use Rattle.rules.specs.Bools.{clash}
+use Rattle.basic_laws.specs.Cases.{clash}
 use Rattle.rules.specs.Types.{Store, Tx, Open, Closed, Refusal, NotResting, Unfit, NotActive}
 use Rattle.rules.specs.Store.{activeTxids}
 use Rattle.rules.specs.Admitted.{resting}

@@ -6,12 +6,12 @@ ghost use Rattle.rules.specs.Numbers.{isDone};
 ghost use Rattle.admit.specs.Admission.{triedBy, admitted};
 use fitting::tx::fit_of;
 use resting::rest::resting_marked;
-use types::Fate;
-use types::Refusal;
-use types::SlotPtr;
-use types::Store;
-use types::Tx;
-use view::txids::is_active;
+use records::Fate;
+use records::Refusal;
+use records::SlotPtr;
+use records::Store;
+use records::Tx;
+use fields::txids::is_active;
 
 // Nothing was refused.
 pub fn is_done(why: Refusal) -> bool

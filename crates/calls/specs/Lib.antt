@@ -1,11 +1,11 @@
 -- Why a call refuses.
 pub mod Refused
 -- The fields of a store, lent.
-pub mod Whole
+pub mod LentWhole
 -- The calls, from what their code finds.
-pub mod Begin
-pub mod Lock
-pub mod Write
-pub mod Abort
-pub mod Read
-pub mod Lookup
+pub mod BeginAnswer
+pub mod LockAnswer
+pub mod WriteAnswer
+pub mod AbortAnswer
+pub mod ReadAnswer
+pub mod LookupAnswer

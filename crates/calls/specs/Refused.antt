@@ -3,7 +3,7 @@ use mathlib.Core.Path.{_≡_, refl, sym, ap, _∙_}
 use mathlib.Core.Bool.{Bool, true, false, not, cond}
 use mathlib.Core.List.{List, [], _∷_}
 use Rattle.rules.specs.Lists.{memb}
-use Rattle.rules.specs.Bools.{by, clash}
+use Rattle.basic_laws.specs.Cases.{by, clash}
 use Rattle.rules.specs.Types.{Store, Tx, Open, Closed, Refusal, Done, NotResting, Unfit, NotActive, FoundPoisoned}
 use Rattle.rules.specs.Store.{activeTxids}
 use Rattle.rules.specs.Admitted.{resting}

@@ -3,21 +3,21 @@
 ghost use mathlib.Core.Path.{_≡_};
 ghost use Rattle.rules.specs.Calls.{abort};
 ghost use Rattle.journal.specs.Adds.{Adds};
-ghost use Rattle.view.specs.Lent.{atRows, atPlaces};
-ghost use Rattle.calls.specs.Abort.{ownFrees, abortPutsOf};
+ghost use Rattle.fields.specs.Lent.{atRows, atPlaces};
+ghost use Rattle.calls.specs.AbortAnswer.{ownFrees, abortPutsOf};
 use admit::admission::admitted;
 use admit::admission::is_done;
 use journal::Journal;
 use journal::Kind;
-use look::changed::only_txid;
-use sight::slots::is_own;
-use types::Reply;
-use types::RowId;
-use types::SlotPtr;
-use types::Store;
-use types::Tx;
-use types::Txid;
-use view::walk::walk_all;
+use recording::changed::only_txid;
+use visibility::slots::is_own;
+use records::Reply;
+use records::RowId;
+use records::SlotPtr;
+use records::Store;
+use records::Tx;
+use records::Txid;
+use fields::walk::walk_all;
 
 // A free for each off-chain slot of t, rising, by the marks of the walk.
 fn push_own<'a>(

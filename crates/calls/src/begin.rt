@@ -3,23 +3,23 @@
 ghost use mathlib.Core.Path.{_≡_};
 ghost use Prim.Native.Nat.{_<_};
 ghost use lib.ListN.{length};
-ghost use Rattle.types.specs.Limits.{clockEnd, activeLimit};
+ghost use Rattle.records.specs.Limits.{clockEnd, activeLimit};
 ghost use Rattle.rules.specs.Calls.{begin};
 ghost use Rattle.journal.specs.Adds.{Adds};
-ghost use Rattle.view.specs.Lent.{atActive};
-ghost use Rattle.calls.specs.Begin.{beginTries, beginPuts, begunOf};
+ghost use Rattle.fields.specs.Lent.{atActive};
+ghost use Rattle.calls.specs.BeginAnswer.{beginTries, beginPuts, begunOf};
 use admit::admission::is_done;
 use journal::Journal;
 use journal::Kind;
 use resting::rest::resting;
-use sight::active::active_count;
-use sight::active::oldest_active;
-use types::Fate;
-use types::Refusal;
-use types::Reply;
-use types::Store;
-use types::Tx;
-use types::Txid;
+use visibility::active::active_count;
+use visibility::active::oldest_active;
+use records::Fate;
+use records::Refusal;
+use records::Reply;
+use records::Store;
+use records::Tx;
+use records::Txid;
 
 // Numbers 1, 9, 21 and 22.
 fn begin_refusal(rests: bool, poisoned: bool, active: &[u64; Txid::ACTIVE], clock: u64) -> Refusal

@@ -8,22 +8,22 @@ ghost use Rattle.rules.specs.Calls.{rowLock};
 ghost use Rattle.journal.specs.Journal.{placeBase};
 ghost use Rattle.journal.specs.Adds.{Adds};
 ghost use Rattle.calls.specs.Refused.{unless};
-ghost use Rattle.calls.specs.Lock.{lockTries};
+ghost use Rattle.calls.specs.LockAnswer.{lockTries};
 use super::refusal::healthy;
 use admit::admission::admitted;
 use admit::admission::is_done;
 use journal::Journal;
 use journal::Kind;
-use types::Fate;
-use types::Refusal;
-use types::Reply;
-use types::RowId;
-use types::SlotPtr;
-use types::Store;
-use types::Tx;
-use types::Txid;
-use view::lent::head_of;
-use view::locks::locked_by_another;
+use records::Fate;
+use records::Refusal;
+use records::Reply;
+use records::RowId;
+use records::SlotPtr;
+use records::Store;
+use records::Tx;
+use records::Txid;
+use fields::lent::head_of;
+use fields::locks::locked_by_another;
 
 // Numbers 23, 27 and 28, if nothing was refused before.
 fn lock_refusal(first: Refusal, r: RowId, head: SlotPtr, locked: bool) -> Refusal

@@ -3,21 +3,21 @@
 ghost use mathlib.Core.Path.{_≡_};
 ghost use Rattle.rules.specs.Calls.{read};
 ghost use Rattle.calls.specs.Refused.{unless};
-ghost use Rattle.calls.specs.Read.{readTries};
+ghost use Rattle.calls.specs.ReadAnswer.{readTries};
 use super::refusal::healthy;
 use admit::admission::admitted;
 use admit::admission::is_done;
-use look::changed::with_reads;
-use look::reads::with_read;
-use sight::found::read_ptr;
-use sight::slots::value_at;
-use types::Fate;
-use types::Refusal;
-use types::RowId;
-use types::Seen;
-use types::Store;
-use types::Tx;
-use types::Value;
+use recording::changed::with_reads;
+use recording::reads::with_read;
+use visibility::found::read_ptr;
+use visibility::slots::value_at;
+use records::Fate;
+use records::Refusal;
+use records::RowId;
+use records::Seen;
+use records::Store;
+use records::Tx;
+use records::Value;
 
 // Numbers 23 and 24, if nothing was refused before.
 fn read_refusal(first: Refusal, r: RowId, over: bool) -> Refusal

@@ -3,8 +3,8 @@
 ghost use mathlib.Core.Path.{_≡_};
 ghost use Rattle.calls.specs.Refused.{unless, poisonedTries};
 use admit::admission::is_done;
-use types::Fate;
-use types::Refusal;
+use records::Fate;
+use records::Refusal;
 
 // Number 9, if nothing was refused before.
 pub fn healthy(first: Refusal, poisoned: bool) -> Refusal

@@ -1,10 +1,6 @@
 -- the storing half
 pub mod Plan
 -- the two halves joined
-pub mod Tries
+pub mod Tried
 pub mod Planning
 pub mod Run
--- the demands of code
-pub mod Answers
-pub mod Quiet
-pub mod Demands

@@ -5,9 +5,9 @@ use mathlib.Core.List.{List, [], _∷_, map}
 use Prim.Native.Nat.{ℕ, _≤_}
 use native.Mathlib.Omega.{arith}
 use lib.ListN.{length}
-use Rattle.types.specs.Limits.{rows, places, writeLimit}
-use Rattle.types.specs.Zero.{noWrite}
-use Rattle.laws.specs.Sized.{Sized}
+use Rattle.records.specs.Limits.{rows, places, writeLimit}
+use Rattle.records.specs.Zero.{noWrite}
+use Rattle.statements.specs.Sized.{Sized}
 use Rattle.rules.specs.Lists.{pad}
 use Rattle.rules.specs.Types.{Store, Tx, Schedule}
 use Rattle.rules.specs.Transaction.{finals}
@@ -15,16 +15,16 @@ use Rattle.rules.specs.Chains.{Walk, walk}
 use Rattle.rules.specs.Faults.{F, X, Q, faultAt, faultsOf}
 use Rattle.rules.specs.Fit.{fit}
 use Rattle.rules.specs.Commit.{count, strikes, runOf}
-use Rattle.rules.specs.Gates.{gates}
+use Rattle.run_laws.specs.Gates.{gates}
 use Rattle.journal.specs.Journal.{Holds}
 use Rattle.journal.specs.Adds.{Adds}
-use Rattle.view.specs.Walked.{walk-long}
-use Rattle.view.specs.Lent.{array, array-same, atRows, atPlaces}
-use Rattle.asks.specs.declared.finals.Finals.{Finals}
-use Rattle.asks.specs.Faults.{struckBy}
+use Rattle.fields.specs.Walked.{walk-long}
+use Rattle.fields.specs.Lent.{array, array-same, atRows, atPlaces}
+use Rattle.commit_tests.specs.declared.finals.Finals.{Finals}
+use Rattle.commit_tests.specs.Striking.{struckBy}
 use Rattle.steps.specs.Stops.{firstTrue, cleanGate, gateOf}
-use Rattle.steps.specs.Whole.{run-puts}
-use Rattle.asks.specs.Finals.{finalsLaid}
+use Rattle.steps.specs.RunFound.{run-puts}
+use Rattle.commit_tests.specs.FinalTurns.{finalsLaid}
 use Rattle.commit.specs.declared.plan.run.Struck.{Struck}
 use Rattle.commit.specs.declared.plan.run.Plan.{Plan}
 use Rattle.commit.specs.Plan.Parts.{putsAt}

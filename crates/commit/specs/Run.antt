@@ -8,7 +8,7 @@ use lib.ListN.{length, getD, take}
 use lib.Seq.{take-all}
 use lib.Dec.{ltb, leb}
 use borrow.Author.Tests.{lt-ltb, le-ltb}
-use Rattle.types.specs.Zero.{zeroTx}
+use Rattle.records.specs.Zero.{zeroTx}
 use Rattle.rules.specs.Types.{Store, Tx, Schedule, Cut, Uncut, After, Answer, Closed, CutOff}
 use Rattle.rules.specs.Transaction.{finals}
 use Rattle.rules.specs.Puts.{Put, applyAll}
@@ -16,11 +16,11 @@ use Rattle.rules.specs.Commit.{runOf}
 use Rattle.rules.specs.Answer.{noEvents, noRecord, uncut, cutOff, answer}
 use Rattle.journal.specs.Journal.{putLimit, puts, Holds}
 use Rattle.journal.specs.Holds.{holds-count, holds-cut}
-use Rattle.asks.specs.Faults.{letters}
+use Rattle.commit_tests.specs.Striking.{letters}
 use Rattle.steps.specs.Stops.{cleanGate, letterIn, gateOf}
-use Rattle.steps.specs.Answers.{recordIf, eventsBy}
+use Rattle.steps.specs.RecordAndEvents.{recordIf, eventsBy}
 use Rattle.steps.specs.Ends.{gateNumbers, gatePassed, gateLeft, endingFor, txFor}
-use Rattle.steps.specs.Whole.{answered}
+use Rattle.steps.specs.RunFound.{answered}
 
 -- how many of n stores are made
 unfoldable pub stopAt : Cut → ℕ → ℕ

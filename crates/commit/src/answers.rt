@@ -3,8 +3,8 @@
 ghost use mathlib.Core.Path.{_≡_};
 ghost use Rattle.rules.specs.Answer.{unchanged};
 ghost use Rattle.commit.specs.Run.{stopAt, cutAnswer, wholeAnswer};
-use asks::faults::letters_of;
-use asks::finals::has_writes;
+use commit_tests::faults::letters_of;
+use commit_tests::finals::has_writes;
 use steps::answers::events_of;
 use steps::answers::record_of;
 use steps::ends::ending_at;
@@ -13,14 +13,14 @@ use steps::ends::tx_left;
 use steps::gates;
 use steps::none::no_events;
 use steps::none::no_record;
-use types::Answer;
-use types::Cut;
-use types::Fate;
-use types::Refusal;
-use types::Schedule;
-use types::Store;
-use types::Tx;
-use view::lent::clipped;
+use records::Answer;
+use records::Cut;
+use records::Fate;
+use records::Refusal;
+use records::Schedule;
+use records::Store;
+use records::Tx;
+use fields::lent::clipped;
 
 // All unchanged.
 pub fn unchanged(s: Store, x: Tx, why: Refusal) -> Answer

@@ -4,7 +4,6 @@ ghost use mathlib.Core.Path.{_≡_};
 ghost use Rattle.rules.specs.Answer.{commit};
 
 mod answers;
-pub mod joined;
 mod plan;
 mod planning;
 mod run;
@@ -12,11 +11,11 @@ mod run;
 use admit::admission::admitted;
 use admit::admission::is_done;
 use fitting::schedule::schedule_fit;
-use types::Answer;
-use types::Cut;
-use types::Schedule;
-use types::Store;
-use types::Tx;
+use records::Answer;
+use records::Cut;
+use records::Schedule;
+use records::Store;
+use records::Tx;
 
 // Tries 1, 2 and 3, then the steps; a refusal leaves all unchanged.
 pub fn commit(s: Store, x: Tx, logged: bool, plan: Schedule, cut: Cut) -> Answer

@@ -2,23 +2,23 @@
 
 ghost use mathlib.Core.Path.{_≡_};
 ghost use mathlib.Core.Bool.{Bool, true, _||_};
-ghost use Rattle.laws.specs.Sized.{Sized};
+ghost use Rattle.statements.specs.Sized.{Sized};
 ghost use Rattle.rules.specs.Types.{Store, Tx};
 ghost use Rattle.rules.specs.Fit.{fit};
 ghost use Rattle.rules.specs.Faults.{X, Q};
-ghost use Rattle.asks.specs.Faults.{struckBy};
+ghost use Rattle.commit_tests.specs.Striking.{struckBy};
 ghost use Rattle.commit.specs.Plan.Planned.{planOf, struckOf};
 use super::plan::run::Plan;
 use super::plan::run::Struck;
 use super::plan::run::plan_of;
-use asks::faults::strikes;
-use asks::faults::struck_count;
-use asks::finals::final_writes;
-use types::RowId;
-use types::Schedule;
-use types::SlotPtr;
-use types::Tx;
-use view::walk::walk_all;
+use commit_tests::faults::strikes;
+use commit_tests::faults::struck_count;
+use commit_tests::finals::final_writes;
+use records::RowId;
+use records::Schedule;
+use records::SlotPtr;
+use records::Tx;
+use fields::walk::walk_all;
 
 // The plan, from the store's arrays and the transaction.
 pub fn plan_for<'a>(

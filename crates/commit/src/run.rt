@@ -8,14 +8,14 @@ ghost use Rattle.rules.specs.Answer.{answer};
 use super::answers;
 use super::plan::run::push_run;
 use super::planning;
-use asks::finals::has_writes;
+use commit_tests::finals::has_writes;
 use journal::Journal;
 use steps::first::first_gate;
-use types::Answer;
-use types::Cut;
-use types::Schedule;
-use types::Store;
-use types::Tx;
+use records::Answer;
+use records::Cut;
+use records::Schedule;
+use records::Store;
+use records::Tx;
 
 // The answer of the steps; a cut only makes fewer of the stores.
 pub fn run(s: Store, x: Tx, logged: bool, plan: Schedule, cut: Cut) -> Answer

@@ -8,8 +8,8 @@ use Prim.Native.Nat.{ℕ, _<_}
 use native.Mathlib.Omega.{arith}
 use lib.ListN.{length, getD}
 use borrow.Author.Tests.{eqb-true}
-use Rattle.types.specs.Limits.{rows, writeLimit}
-use Rattle.types.specs.Zero.{noWrite, onlyTxid}
+use Rattle.records.specs.Limits.{rows, writeLimit}
+use Rattle.records.specs.Zero.{noWrite, onlyTxid}
 use Rattle.rules.specs.Lists.{memb, isZero, pad}
 use Rattle.rules.specs.Types.{Store, Tx, Schedule, Answer, Cut, Uncut}
 use Rattle.rules.specs.Store.{activeTxids, postingsOf}
@@ -22,26 +22,25 @@ use Rattle.rules.specs.Calls.{abort}
 use Rattle.rules.specs.Changes.{release, insertions, removals, publication, recycling, stamping}
 use Rattle.rules.specs.Commit.{runOf, fails, unloggedWrites}
 use Rattle.rules.specs.Answer.{uncut, commit}
-use Rattle.rules.specs.Bools.{clash, by, or-left}
-use Rattle.rules.specs.Only.{only, only-both, kept, is-not}
-use Rattle.rules.specs.Outcome.{conflicting, guardsTaken, afterInsert, afterRemove, afterPublish, afterRecycle, afterFinish, afterStamp, outcome}
-use Rattle.rules.specs.TestLaws.{Some, LockedByAnother, Stale, either, index-reads-say, row-locks-say, serialization-says, write-bases-say}
-use Rattle.rules.specs.Rows.{Admitted, success, whole, only-done}
-use Rattle.rules.specs.Aftermath.{row-0}
-use Rattle.laws.specs.Sized.{Sized}
-use Rattle.index.specs.Kinds.{taken-kinds, release-kinds, insertions-kind, removals-kind, publication-kinds, recycling-kind, stamping-kind}
-use Rattle.index.specs.Healthy.{row-0-exact}
-use Rattle.heart.specs.Shown.{shown, withNew}
-use Rattle.heart.specs.Ways.{stands}
-use Rattle.heart.specs.Sizes.{sized-all}
-use Rattle.heart.specs.Start.{txid-positive, shows-heads}
-use Rattle.heart.specs.Meaning.{marks}
-use Rattle.heart.specs.Resting.{rests}
-use Rattle.heart.specs.Recovery.{Keyed}
-use Rattle.heart.specs.Again.{commit-rests, stood}
-use Rattle.keeps.specs.Active.{unfinished-is}
-use Rattle.keeps.specs.CommitAborts.{Freed, abortedNumber, commit-aborts, abort-call}
-use Rattle.demands.specs.Demand3.{rowValue, with-same}
+use Rattle.basic_laws.specs.Cases.{clash, by, or-left}
+use Rattle.run_laws.specs.OnlyKinds.{only, only-both, kept, is-not}
+use Rattle.run_laws.specs.Outcome.{conflicting, guardsTaken, afterInsert, afterRemove, afterPublish, afterRecycle, afterFinish, afterStamp, outcome}
+use Rattle.statements.specs.Demands.{Demand2, Demand2Aborts, Demand2Abort}
+use Rattle.statements.specs.Words.{Conflicts, Committed, Admitted, shown, stands, Freed, abortedNumber, rowValue}
+use Rattle.run_laws.specs.FourTests.{either, index-reads-say, row-locks-say, serialization-says, write-bases-say}
+use Rattle.run_laws.specs.FirstRows.{success, whole, only-done}
+use Rattle.run_laws.specs.Aftermath.{row-0}
+use Rattle.statements.specs.Sized.{Sized, Keyed}
+use Rattle.run_laws.specs.Kinds.{taken-kinds, release-kinds, insertions-kind, removals-kind, publication-kinds, recycling-kind, stamping-kind}
+use Rattle.posting_laws.specs.Healthy.{row-0-exact}
+use Rattle.recovery_laws.specs.Sizes.{sized-all}
+use Rattle.recovery_laws.specs.Start.{txid-positive, shows-heads}
+use Rattle.admitted_laws.specs.Repairable.{marks}
+use Rattle.admitted_laws.specs.Resting.{rests}
+use Rattle.recovery_laws.specs.Again.{commit-rests, stood}
+use Rattle.call_laws.specs.ActiveList.{unfinished-is}
+use Rattle.call_laws.specs.CommitAborts.{commit-aborts, abort-call}
+use Rattle.demands.specs.Demand3.{with-same}
 
 -- on an unpoisoned resting store a txid that is not active has no slot off the chains
 no-stray : (T : Store) → Sized T → resting T ≡ true → T .poisoned ≡ false → (t : ℕ) → 0 < t → memb t (activeTxids (T .active)) ≡ false
@@ -78,28 +77,9 @@ module _ (S : Store) (x : Tx) (logged : Bool) (plan : Schedule) where
       rw (u, only-done S x logged plan _ _ _ (outcome S x logged plan) (rw u at d) .0)
       (kept (λ T. T .poisoned) clean (λ p T m. rw (is-not clean kPoison refl p m, is-not clean kDoom refl p m)) ps S clean-run ∙ h)
 
-  -- the four tests in words; one of them says yes
-  abbrev pub Conflicts : Type 0
-  Conflicts =
-      ((x .«index_conflict» ≡ true) ⊎ Some (λ e. getD (S .stamps) (e .stripe) 0 ≢ e .stamp .0) (indexReadsOf x))
-      ⊎ (Some (λ w. LockedByAnother S (x .txid .0) (getD (S .heads) (w .row .0) 0)) (writesOf x)
-      ⊎ (Some (Stale (S .xmin) (S .xmax) x) (readsOf x)
-      ⊎ Some (λ w. getD (S .heads) (w .row .0) 0 ≢ w .base .0) (finalWrites (writesOf x))))
-
-  conflicts-say : (conflicting S x logged plan ≡ true) ↔ Conflicts
+  conflicts-say : (conflicting S x logged plan ≡ true) ↔ Conflicts S x
   conflicts-say =
       either _ _ (index-reads-say (S .stamps) x) (either _ _ (row-locks-say S x) (either _ _ (serialization-says (S .xmin) (S .xmax) x) (write-bases-say (S .heads) x)))
-
-  -- what success leaves
-  pub record Committed (a : Answer) : Type 0 where
-    pub names : a .«record» ≡ record { txid = x .txid; writes = pad writeLimit noWrite (finals x); count = length (finals x) }
-    pub rows : (r : ℕ) → r < rows → rowValue (a .store) r ≡ withNew (S .key) (S .has) (finals x) (rowValue S) r
-    pub postings : postingsOf (a .store) ≡ headPostings (a .store .key) (a .store .has) 0 (a .store .heads)
-    pub gone : memb (x .txid .0) (activeTxids (a .store .active)) ≡ false
-    pub home : (p : ℕ) → getD (a .store .xmin) p 0 ≡ x .txid .0 → on (walk (a .store .heads) (a .store .next) .seen) p ≡ true
-    pub rests : resting (a .store) ≡ true
-    pub healthy : a .store .poisoned ≡ false
-    pub lists : a .tx ≡ emptied x
 
   module _ (z : Sized S) (k : Keyed S) (ok : Admitted S x plan) (quiet : plan .count ≡ 0) (sound : S .poisoned ≡ false) (free : (unloggedWrites S x logged plan && S .bound) ≡ false) where
     abbrev pub A : Answer
@@ -109,9 +89,9 @@ module _ (S : Store) (x : Tx) (logged : Bool) (plan : Schedule) where
     pub number : numberOf (A .refusal) ≡ cond (conflicting S x logged plan) 7 0
     number = success S x logged plan ok quiet sound free
 
-    -- DEMAND 2: number 0 exactly when the four tests all say no
-    pub demand-2 : (numberOf (A .refusal) ≡ 0) ↔ (Conflicts → ⊥)
-    demand-2 = (
+    -- number 0 exactly when the four tests all say no
+    succeeds : (numberOf (A .refusal) ≡ 0) ↔ (Conflicts S x → ⊥)
+    succeeds = (
       (λ h c. absurd (omega (arith, rw (conflicts-say .1 c, h) at (sym number)))),
       (λ no-one. by (conflicting S x logged plan) (λ e. absurd (no-one (conflicts-say .0 e))) (λ e. rw e at number)),
     )
@@ -122,8 +102,8 @@ module _ (S : Store) (x : Tx) (logged : Bool) (plan : Schedule) where
     ran d = let u = whole S x logged plan Uncut ok isZero refl d in (rw u, or-left _ _ (rw u at d))
 
     -- and what success leaves: the record, the rows, the postings, the active list
-    pub demand-2-leaves : isDone (A .refusal) ≡ true → Committed A
-    demand-2-leaves d =
+    leaves : isDone (A .refusal) ≡ true → Committed S x A
+    leaves d =
         let h = stays-healthy sound ok d in
         let r = commit-rests S x logged plan z k (ok .rests) Uncut isZero refl d in
         let e = ran d in
@@ -144,11 +124,15 @@ module _ (S : Store) (x : Tx) (logged : Bool) (plan : Schedule) where
           lists = left .0;
         }
 
+-- DEMAND 2
+pub demand-2 : Demand2
+demand-2 S x logged plan z k q =
+    (succeeds S x logged plan z k (q .ok) (q .faultless) (q .sound) (q .free), leaves S x logged plan z k (q .ok) (q .faultless) (q .sound) (q .free))
+
 -- "Each abort that neither fault nor cut strikes truly frees and deregisters": the aborts inside commit (5, 6, 7, 9, 11, 12, and 19 where only the
 -- rollback failed), whatever the cut allows to be answered, and the call's own
-pub demand-2-aborts : (S : Store) (x : Tx) (logged : Bool) (plan : Schedule) (cut : Cut) → Sized S → Admitted S x plan → fails S x logged plan 23 ≡ false → let a = commit S x logged plan cut in
-    abortedNumber S x logged plan (numberOf (a .refusal)) ≡ true → Freed S (x .txid .0) (a .store) × (a .tx ≡ onlyTxid (x .txid .0))
+pub demand-2-aborts : Demand2Aborts
 demand-2-aborts S x logged plan cut z ok f h = commit-aborts S x logged plan cut z ok f h
 
-pub demand-2-abort : (S : Store) (x : Tx) → Sized S → numberOf (abort S x .refusal) ≡ 0 → Freed S (x .txid .0) (abort S x .store) × (abort S x .tx ≡ onlyTxid (x .txid .0))
+pub demand-2-abort : Demand2Abort
 demand-2-abort S x z h = abort-call S x z h

@@ -8,7 +8,7 @@ use lib.ListN.{length, getD, take}
 use lib.Seq.{take-length}
 use lib.Dec.{eqb, leb}
 use borrow.Author.Tests.{leb-false, lt-leb}
-use Rattle.types.specs.Limits.{rows}
+use Rattle.records.specs.Limits.{rows}
 use Rattle.rules.specs.Lists.{memb}
 use Rattle.rules.specs.Types.{Store, Tx, Write, Schedule, Answer, Cut, Uncut, After, Value, Open, Closed, Refusal, Done, Unfit, NotActive}
 use Rattle.rules.specs.Store.{valueAt, activeTxids}
@@ -20,40 +20,17 @@ use Rattle.rules.specs.Puts.{Put, applyAll}
 use Rattle.rules.specs.Commit.{End, runOf}
 use Rattle.rules.specs.Answer.{uncut, unchanged, commit}
 use Rattle.rules.specs.Recovery.{recovered, recover}
-use Rattle.rules.specs.Bools.{by, and-true}
-use Rattle.rules.specs.Outcome.{unremoved, unpublished, unrecycled, unfinished, Outcome, done, stays, aborts, uninserted, uncalled, spoils, unstamped, outcome}
-use Rattle.rules.specs.Rows.{Admitted, row-2, row-3, admitted, stay-not, abort-not, called-not}
-use Rattle.laws.specs.Sized.{Sized}
-use Rattle.laws.specs.Parts.{resting-parts}
-use Rattle.heart.specs.Sizes.{sized-all}
-use Rattle.heart.specs.Shown.{shown, withNew}
-use Rattle.heart.specs.Ways.{stands}
-use Rattle.heart.specs.Recovery.{Keyed, Recovered, recovery, recovered-again}
-use Rattle.heart.specs.Prefix.{prefix}
-use Rattle.heart.specs.Cuts.{recover-done, keyed-run, cut-store}
-
--- what a row holds
-abbrev pub rowValue : Store → ℕ → Value
-rowValue T r = valueAt (T .key) (T .has) (getD (T .heads) r 0)
-
--- the rows of a store before the call, by recovery itself
-abbrev pub before : Store → ℕ → Value
-before S r = rowValue (recover S .store) r
-
--- "step 21's deregistration was stored and neither publication nor recycling had failed": the commit, uncut, answers 0 or 17, and the store D
--- left behind has its txid no longer active
-abbrev pub survived : Store → Tx → Bool → Schedule → Store → Bool
-survived S x logged plan D = stands (commit S x logged plan Uncut .refusal) && not (memb (x .txid .0) (activeTxids (D .active)))
-
--- "every row shows its old value, or all final writes show together and every other row its old value"
-abbrev pub after : Store → Tx → Bool → Schedule → Store → ℕ → Value
-after S x logged plan D r = cond (survived S x logged plan D) (withNew (S .key) (S .has) (finals x) (before S) r) (before S r)
-
--- recovery of D accepts, leaves what recovery leaves, and shows old or new
-pub record Safe (S : Store) (x : Tx) (logged : Bool) (plan : Schedule) (D : Store) : Type 0 where
-  pub accepted : recover D .refusal ≡ Done
-  pub mended : Recovered D (recover D .store)
-  pub rows : (r : ℕ) → r < rows → rowValue (recover D .store) r ≡ after S x logged plan D r
+use Rattle.basic_laws.specs.Cases.{by, and-true}
+use Rattle.run_laws.specs.Outcome.{unremoved, unpublished, unrecycled, unfinished, Outcome, done, stays, aborts, uninserted, uncalled, spoils, unstamped, outcome}
+use Rattle.statements.specs.Demands.{Demand3}
+use Rattle.statements.specs.Words.{before, survived, after, Safe, Admitted, shown, withNew, stands}
+use Rattle.run_laws.specs.FirstRows.{row-2, row-3, admitted, stay-not, abort-not, called-not}
+use Rattle.statements.specs.Sized.{Sized, Keyed}
+use Rattle.basic_laws.specs.TestParts.{resting-parts}
+use Rattle.recovery_laws.specs.Sizes.{sized-all}
+use Rattle.recovery_laws.specs.Recovering.{recovery, recovered-again}
+use Rattle.recovery_laws.specs.Prefix.{prefix}
+use Rattle.recovery_laws.specs.Cuts.{recover-done, keyed-run, cut-store}
 
 -- the writes put into rows that agree
 pub with-same : (key : List ℕ) (has : List Bool) (ws : List Write) (f g : ℕ → Value) → ((r : ℕ) → r < rows → f r ≡ g r) → (r : ℕ) → r < rows
@@ -108,9 +85,9 @@ module _ (S : Store) (x : Tx) (logged : Bool) (plan : Schedule) (z : Sized S) (k
       let answered : commit S x logged plan Uncut .refusal ≡ why = ap (λ (a : Answer). a .refusal) e in
       record { accepted = rw f; mended = rw f (recovery S z k mends); rows = λ r lt. rw (answered, falls) }
 
-  -- DEMAND 3: for every resting store, poisoned ones included, every transaction, logging choice, schedule and cut
-  pub demand-3 : (cut : Cut) → Safe S x logged plan (commit S x logged plan cut .store)
-  demand-3 cut =
+  -- admitted or refused
+  safe : (cut : Cut) → Safe S x logged plan (commit S x logged plan cut .store)
+  safe cut =
       by (fit S x && scheduleFit plan)
       (λ f. by (memb (x .txid .0) (activeTxids (S .active)))
       (λ m. let c = and-true (fit S x) (scheduleFit plan) f in
@@ -135,6 +112,10 @@ module _ (S : Store) (x : Tx) (logged : Bool) (plan : Schedule) (z : Sized S) (k
   pub survived-says : Admitted S x plan → (D : Store) → survived S x logged plan D ≡ (leb 21 (runOf S x logged plan .passed) && not (memb (x .txid .0) (activeTxids (D .active))))
   unfolding uncut
   survived-says ok D = rw (ap (λ (a : Answer). a .refusal) (admitted S x logged plan Uncut ok), passed-says _ _ _ (outcome S x logged plan))
+
+-- DEMAND 3
+pub demand-3 : Demand3
+demand-3 S x logged plan z k rest cut = safe S x logged plan z k rest cut
 
 -- "recovery of a repairable store gives a resting, unpoisoned one, and a second recovery changes nothing"
 pub twice : (S : Store) → Sized S → Keyed S → repairable S ≡ true → recover (recover S .store) .store ≡ recover S .store

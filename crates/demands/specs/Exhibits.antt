@@ -5,8 +5,8 @@ use mathlib.Core.Bool.{true, false}
 use mathlib.Core.List.{List, [], _∷_, _++_}
 use Prim.Native.Nat.{ℕ}
 use lib.ListN.{length, getD, replicate}
-use Rattle.types.specs.Limits.{rows, slots, places, postingLimit, stripes, partitions, activeLimit, readLimit, clockEnd}
-use Rattle.types.specs.Zero.{fresh, noFaults}
+use Rattle.records.specs.Limits.{rows, slots, places, postingLimit, stripes, partitions, activeLimit, readLimit, clockEnd}
+use Rattle.records.specs.Zero.{fresh, noFaults}
 use Rattle.rules.specs.Lists.{memb, pad}
 use Rattle.rules.specs.Types.{Store, Tx, Cut, Uncut, After, Value, Absent, Key}
 use Rattle.rules.specs.Store.{activeTxids}
@@ -23,10 +23,8 @@ use Rattle.rules.specs.Replay.{Line, lineB, lineR, lineW, lineK, lineC, lineF, 
 use Rattle.rules.specs.Computing.{computing}
 use Rattle.rules.specs.Mornings.{morning, written, done}
 use Rattle.demands.specs.Struck.{again, beaten}
-use Rattle.rules.specs.Rows.{Admitted}
-use Rattle.laws.specs.Sized.{Sized}
-use Rattle.heart.specs.Recovery.{Keyed}
-use Rattle.demands.specs.Demand3.{rowValue}
+use Rattle.statements.specs.Words.{Admitted, rowValue}
+use Rattle.statements.specs.Sized.{Sized, Keyed}
 
 -- a history's store, and the transaction of its place 0
 abbrev storeOf : List Line → Store

@@ -5,7 +5,7 @@ use mathlib.Core.List.{List, [], _∷_, _++_, map}
 use Prim.Native.Nat.{ℕ}
 use Rattle.rules.specs.Lists.{flat, inOrder}
 use Rattle.rules.specs.Types.{Value, Key, Uncut, After}
-use Rattle.types.specs.Zero.{emptyStore}
+use Rattle.records.specs.Zero.{emptyStore}
 use Rattle.rules.specs.Transaction.{withReads}
 use Rattle.rules.specs.Faults.{F, B, P, X, Q}
 use Rattle.rules.specs.Replay.{Line, lineB, lineR, lineW, lineL, lineK, lineC, lineF, lineV, num, dash, Out, says, Desk, deskOf, start, txAt, laid, replayFrom}

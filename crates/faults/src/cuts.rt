@@ -6,8 +6,8 @@ use super::shown;
 use super::shown::sight_of;
 use commit::commit;
 use script::refusal::number_of;
-use types::Cut;
-use types::Schedule;
+use records::Cut;
+use records::Schedule;
 
 // More than any commit makes.
 const MOST: usize = 1000;

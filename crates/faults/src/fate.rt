@@ -1,7 +1,7 @@
 // The fate that a refusal of commit carries.
 
-use types::Fate;
-use types::Refusal;
+use records::Fate;
+use records::Refusal;
 
 // Open for `Done`, which carries none, and for what commit never answers.
 pub fn fate_in(why: Refusal) -> Fate {

@@ -4,12 +4,12 @@ use super::fate::fate_in;
 use super::shown;
 use super::trial::Trial;
 use resting::rest::resting;
-use types::Answer;
-use types::Fate;
-use types::Fault;
-use types::RowId;
-use types::Txid;
-use view::txids::is_active;
+use records::Answer;
+use records::Fate;
+use records::Fault;
+use records::RowId;
+use records::Txid;
+use fields::txids::is_active;
 
 fn word(s: &[u8]) {
     io::write_all(1, s);

@@ -9,8 +9,8 @@ use super::trial::Trial;
 use super::trial::schedule_of;
 use commit::commit;
 use script::refusal::number_of;
-use types::Cut;
-use types::Fault;
+use records::Cut;
+use records::Fault;
 
 // The fault alone is answered 2, with no store, and recovery shows the old rows.
 pub fn is_unfit(b: Bench, logged: bool, f: Fault) -> bool {

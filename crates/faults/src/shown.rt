@@ -1,14 +1,14 @@
 // What the rows show.
 
 use super::bench::Bench;
-use mend::recover;
+use recovery::recover;
 use resting::rest::resting;
 use script::refusal::number_of;
-use sight::slots::value_at;
-use types::RowId;
-use types::SlotPtr;
-use types::Store;
-use types::Value;
+use visibility::slots::value_at;
+use records::RowId;
+use records::SlotPtr;
+use records::Store;
+use records::Value;
 
 pub const OLD: u8 = 0;
 

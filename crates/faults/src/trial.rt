@@ -1,7 +1,7 @@
 // The schedules tried.
 
-use types::Fault;
-use types::Schedule;
+use records::Fault;
+use records::Schedule;
 
 // The first fault, none at step 0; whether 21 and 23 fail too; and 24: 0 for no fault, else F with one less for k.
 pub struct Trial {

@@ -9,7 +9,7 @@ use super::trial::ks_tried;
 use super::trial::reaches_abort;
 use super::trial::reaches_finish;
 use super::trial::rollbacks_tried;
-use types::Fault;
+use records::Fault;
 
 const COUNT: usize = 5;
 

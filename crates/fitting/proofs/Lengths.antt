@@ -2,9 +2,9 @@
 use denote.Laws.{Is}
 use denote.Struct.Laws as LL
 use Rattle.rules.specs.Types.{Tx}
-use Rattle.types.proofs.Tx as T
-use Rattle.types.proofs.Tx.Laws as T′
-use Rattle.view.proofs.Lengths.{snapshot-long, writes-long, reads-long, index-reads-long, savepoints-long}
+use Rattle.records.proofs.Tx as T
+use Rattle.records.proofs.Tx.Laws as T′
+use Rattle.fields.proofs.Lengths.{snapshot-long, writes-long, reads-long, index-reads-long, savepoints-long}
 use Rattle.fitting.specs.Fits.{SizedTx}
 
 pub sized-tx : (x : Tx) → Is T.the-row x (LL.vals T.the-type T′.the-laws x) → SizedTx x

@@ -9,10 +9,10 @@ use lib.ListN.{getD}
 use lib.Dec.{eqb}
 use Rattle.rules.specs.Types.{Fault}
 use Rattle.rules.specs.Lists.{all, memb}
-use Rattle.rules.specs.Bools.{by}
+use Rattle.basic_laws.specs.Cases.{by}
 use Rattle.rules.specs.Faults.{F, B, P, X, Q, may, table, masks, bitOf, allowed, stepsApart}
-use Rattle.laws.specs.Lists.{pairs}
-use Rattle.laws.specs.FaultTable.{letterEnd, mask-says, mask-counts}
+use Rattle.basic_laws.specs.Members.{pairs}
+use Rattle.run_laws.specs.FaultTable.{letterEnd, mask-says, mask-counts}
 
 -- a letter's bit is a number to divide by
 pub bit-positive : (c : ℕ) → 0 < bitOf c

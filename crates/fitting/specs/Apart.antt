@@ -5,9 +5,9 @@ use mathlib.Core.List.{List}
 use Prim.Native.Nat.{ℕ, _+_, _<_, _≤_}
 use lib.ListN.{getD, take, drop}
 use Rattle.rules.specs.Lists.{all}
-use Rattle.laws.specs.Lists.{pairs}
-use Rattle.view.specs.Lent.{array}
-use Rattle.view.specs.Counted.{first-cons, first-end}
+use Rattle.basic_laws.specs.Members.{pairs}
+use Rattle.fields.specs.Lent.{array}
+use Rattle.fields.specs.FirstCount.{first-cons, first-end}
 
 module _ {ℓ} {A : Type ℓ} where
   -- the first k of an array, from i on

@@ -8,20 +8,20 @@ use borrow.Author.Tests.{leb-true}
 use lib.ListN.{length, getD, take, drop}
 use lib.Seq.{take-all}
 use lib.Dec.{leb}
-use Rattle.types.specs.Limits.{rows, places, writeLimit, readLimit, indexReadLimit, savepointLimit, activeLimit}
-use Rattle.types.specs.Zero.{noWrite, noRead, noIndexRead}
+use Rattle.records.specs.Limits.{rows, places, writeLimit, readLimit, indexReadLimit, savepointLimit, activeLimit}
+use Rattle.records.specs.Zero.{noWrite, noRead, noIndexRead}
 use Rattle.rules.specs.Types.{Store, Tx, Schedule, Fault}
 use Rattle.rules.specs.Lists.{all, every, allZero, nonFalling}
 use Rattle.rules.specs.Transaction.{writesOf, readsOf, indexReadsOf, savepointsOf}
 use Rattle.rules.specs.Chains.{walk}
 use Rattle.rules.specs.Fit.{readFit, writeFit, writesApart, stripesApart, countsFit, fit}
 use Rattle.rules.specs.Faults.{allowed, stepsApart, faultsOf, scheduleFit}
-use Rattle.laws.specs.Lists.{Each}
-use Rattle.laws.specs.Sized.{Sized}
-use Rattle.view.specs.Lent.{array, array-same, atRows, atPlaces}
-use Rattle.view.specs.Every.{Holds, every-fails, every-each, every-last}
-use Rattle.view.specs.Walked.{marks-array}
-use Rattle.view.specs.Climb.{climb, non-falling-climb}
+use Rattle.basic_laws.specs.Members.{Each}
+use Rattle.statements.specs.Sized.{Sized}
+use Rattle.fields.specs.Lent.{array, array-same, atRows, atPlaces}
+use Rattle.fields.specs.Every.{Holds, every-fails, every-each, every-last}
+use Rattle.fields.specs.Walked.{marks-array}
+use Rattle.fields.specs.Climb.{climb, non-falling-climb}
 use Rattle.fitting.specs.Fitting.{zeroWrite, zeroRead, zeroIndexRead, writeAt}
 
 -- the first m of a list of n elements, where k is m or, if that is more than all, n

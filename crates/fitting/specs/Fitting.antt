@@ -7,18 +7,18 @@ use native.Mathlib.Omega.{arith}
 use borrow.Author.Tests.{eq-eqb, ne-eqb, lt-ltb, le-ltb, le-leb, lt-leb}
 use lib.ListN.{getD, take, drop}
 use lib.Dec.{eqb, ltb, leb}
-use Rattle.types.specs.Limits.{rows, slots, places, stripes, indexReadLimit}
-use Rattle.types.specs.Zero.{noIndexRead}
+use Rattle.records.specs.Limits.{rows, slots, places, stripes, indexReadLimit}
+use Rattle.records.specs.Zero.{noIndexRead}
 use Rattle.rules.specs.Types.{Write, ReadRecord, IndexRead}
 use Rattle.rules.specs.Lists.{all}
 use Rattle.rules.specs.Store.{used}
 use Rattle.rules.specs.Chains.{on}
 use Rattle.rules.specs.Fit.{readFit, writeFit, writesApart, stripesApart}
-use Rattle.laws.specs.Lists.{pairs}
-use Rattle.view.specs.Lent.{array, array-at, atPlaces}
-use Rattle.view.specs.Counted.{first-cons, first-end}
-use Rattle.view.specs.Every.{every-fails, each-every, every-last}
-use Rattle.view.specs.Facts.{nonzero-yes, nonzero-no}
+use Rattle.basic_laws.specs.Members.{pairs}
+use Rattle.fields.specs.Lent.{array, array-at, atPlaces}
+use Rattle.fields.specs.FirstCount.{first-cons, first-end}
+use Rattle.fields.specs.Every.{every-fails, each-every, every-last}
+use Rattle.fields.specs.Facts.{nonzero-yes, nonzero-no}
 
 -- an unused place; shut, so that a law finds its record
 unfoldable pub zeroWrite : Write → Bool

@@ -3,15 +3,15 @@
 ghost use mathlib.Core.Path.{_≡_};
 ghost use Prim.Native.Nat.{_+_, _<_, _≤_};
 ghost use lib.ListN.{getD, take, drop};
-ghost use Rattle.types.specs.Limits.{faultLimit};
-ghost use Rattle.types.specs.Zero.{noFault};
+ghost use Rattle.records.specs.Limits.{faultLimit};
+ghost use Rattle.records.specs.Zero.{noFault};
 ghost use Rattle.rules.specs.Types.{Fault};
 ghost use Rattle.rules.specs.Lists.{all};
 ghost use Rattle.rules.specs.Faults.{bitOf, allowed, stepsApart, scheduleFit};
-ghost use Rattle.view.specs.Lent.{array};
+ghost use Rattle.fields.specs.Lent.{array};
 ghost use Rattle.fitting.specs.Allowed.{stepsDiffer};
-use types::Fault;
-use types::Schedule;
+use records::Fault;
+use records::Schedule;
 
 // A letter's bit in the masks.
 fn bit_of(letter: u8) -> u8

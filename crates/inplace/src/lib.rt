@@ -5,22 +5,22 @@ ghost use mathlib.Core.Path.{_≡_};
 ghost use Rattle.rules.specs.Calls.{begin, read, write, lookup, rowLock, abort};
 ghost use Rattle.rules.specs.Answer.{commit};
 ghost use Rattle.rules.specs.Recovery.{recover};
-ghost use Rattle.inplace.specs.Told.{told, wrote, committed};
+ghost use Rattle.inplace.specs.Answered.{told, wrote, committed};
 
 mod parts;
 
-use types::Cut;
-use types::Events;
-use types::Found;
-use types::Record;
-use types::Refusal;
-use types::RowId;
-use types::Schedule;
-use types::Seen;
-use types::SlotPtr;
-use types::Store;
-use types::Tx;
-use types::Value;
+use records::Cut;
+use records::Events;
+use records::Found;
+use records::Record;
+use records::Refusal;
+use records::RowId;
+use records::Schedule;
+use records::Seen;
+use records::SlotPtr;
+use records::Store;
+use records::Tx;
+use records::Value;
 
 // What begin, row lock and abort answer beside the store.
 pub struct Told {
@@ -99,7 +99,7 @@ pub fn commit_in(s: &mut Store, x: Tx, logged: bool, plan: Schedule, cut: Cut) -
 pub fn recover_in(s: &mut Store) -> Refusal
     ensures { λ r. ⌜ (now (s .exit) ≡ recover (now (s .entry)) .store) × (r ≡ recover (now (s .entry)) .refusal) ⌝ }
 {
-    let mended = mend::recover(*s);
+    let mended = recovery::recover(*s);
     *s = parts::mended_store(mended);
     parts::mended_told(mended)
 }

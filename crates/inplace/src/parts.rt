@@ -1,16 +1,16 @@
 // The two parts of an answer: the store, and the rest.
 
 ghost use mathlib.Core.Path.{_≡_};
-ghost use Rattle.inplace.specs.Told.{told, wrote, committed};
+ghost use Rattle.inplace.specs.Answered.{told, wrote, committed};
 use super::Committed;
 use super::Told;
 use super::Wrote;
-use types::Answer;
-use types::Mended;
-use types::Refusal;
-use types::Reply;
-use types::Store;
-use types::Written;
+use records::Answer;
+use records::Mended;
+use records::Refusal;
+use records::Reply;
+use records::Store;
+use records::Written;
 
 pub fn reply_store(a: Reply) -> Store
     ensures { λ s. ⌜ s ≡ a .store ⌝ }

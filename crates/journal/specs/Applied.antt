@@ -7,7 +7,7 @@ use native.Mathlib.Omega.{arith}
 use borrow.Author.Tests.{ne-eqb}
 use Rattle.rules.specs.Types.{Store}
 use Rattle.rules.specs.Puts.{Put, kStripe, kPartition, kInsert, kRemove, kXmax, kHead, kFree, kDrop, kStamp, kPoison, kDoom, kEnter, kClock, kXmin, kNext, kKey, kLock, apply, applyAll}
-use Rattle.rules.specs.Guards.{applyAll-append}
+use Rattle.run_laws.specs.GuardPuts.{applyAll-append}
 use Rattle.journal.specs.Journal.{putLimit, putAt, puts, Holds}
 
 -- stores with the same fields are the same

@@ -10,7 +10,7 @@ use native.Mathlib.Omega.{arith}
 use lib.ListN.{length, getD, set, take, length-set, length-append}
 use lib.Seq.{getD-set-same, getD-set-other, take-append-le, take-all}
 use borrow.Author.Tests.{lt-ltb, le-leb}
-use Rattle.types.specs.Limits.{keyEnd}
+use Rattle.records.specs.Limits.{keyEnd}
 use Rattle.rules.specs.Puts.{Put, kLock}
 use Rattle.journal.specs.Journal.{putLimit, wordLimit, placeBase, narrow, putOf, putAt, puts, takes, pushed, counted, Pushed, Kept, Holds}
 

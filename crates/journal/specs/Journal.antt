@@ -5,7 +5,7 @@ use mathlib.Core.List.{List, [], _∷_, _++_}
 use Prim.Native.Nat.{ℕ, zero, suc, _+_, _*_, _/_, _%_, _≤_, _<_}
 use lib.ListN.{length, getD, set}
 use lib.Dec.{eqb, ltb, leb}
-use Rattle.types.specs.Limits.{keyEnd}
+use Rattle.records.specs.Limits.{keyEnd}
 use Rattle.rules.specs.Puts.{Put, put, kHead, kNext, kKey, kLock}
 
 -- the limits of the code's `Journal`

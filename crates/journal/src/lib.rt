@@ -6,10 +6,10 @@ ghost use lib.ListN.{length, set};
 ghost use Rattle.rules.specs.Puts.{put, applyAll};
 ghost use Rattle.journal.specs.Journal.{Pushed, puts, putLimit};
 
-mod fields;
+mod puts;
 
-use types::Store;
-use view::lent::clipped;
+use records::Store;
+use fields::lent::clipped;
 
 pub struct Journal;
 
@@ -108,39 +108,39 @@ pub fn apply(s: Store, j: &[u64; Journal::WORDS], n: usize) -> Store
         let low = (v % Journal::LOW_BASE) as u32;
         let count = t.posting_count;
         match word / Journal::PLACE_BASE {
-            Kind::STRIPE => fields::put_stripe(&mut t.stripe_guards, at, v),
-            Kind::PARTITION => fields::put_partition(&mut t.partition_guards, at, v),
-            Kind::INSERT => t.posting_count = fields::insert_posting(&mut t.postings, count, v),
-            Kind::REMOVE => t.posting_count = fields::remove_posting(&mut t.postings, count, v),
-            Kind::XMAX => fields::put_txid(&mut t.xmax, at, v),
-            Kind::HEAD => fields::put_head(&mut t.heads, at, low),
+            Kind::STRIPE => puts::put_stripe(&mut t.stripe_guards, at, v),
+            Kind::PARTITION => puts::put_partition(&mut t.partition_guards, at, v),
+            Kind::INSERT => t.posting_count = puts::insert_posting(&mut t.postings, count, v),
+            Kind::REMOVE => t.posting_count = puts::remove_posting(&mut t.postings, count, v),
+            Kind::XMAX => puts::put_txid(&mut t.xmax, at, v),
+            Kind::HEAD => puts::put_head(&mut t.heads, at, low),
             Kind::FREE => {
-                fields::put_txid(&mut t.xmin, at, 0);
-                fields::put_txid(&mut t.xmax, at, 0);
-                fields::put_number(&mut t.next, at, 0);
-                fields::put_number(&mut t.key, at, 0);
-                fields::put_flag(&mut t.has, at, false);
-                fields::put_flag(&mut t.locked, at, false);
-                fields::put_txid(&mut t.owner, at, 0);
+                puts::put_txid(&mut t.xmin, at, 0);
+                puts::put_txid(&mut t.xmax, at, 0);
+                puts::put_number(&mut t.next, at, 0);
+                puts::put_number(&mut t.key, at, 0);
+                puts::put_flag(&mut t.has, at, false);
+                puts::put_flag(&mut t.locked, at, false);
+                puts::put_txid(&mut t.owner, at, 0);
             }
-            Kind::DROP => fields::leave_active(&mut t.active, v),
-            Kind::STAMP => fields::put_stripe(&mut t.stamps, at, v),
+            Kind::DROP => puts::leave_active(&mut t.active, v),
+            Kind::STAMP => puts::put_stripe(&mut t.stamps, at, v),
             Kind::POISON => t.poisoned = true,
             Kind::DOOM => {
                 t.poisoned = true;
                 t.doomed = v;
             }
-            Kind::ENTER => fields::enter_active(&mut t.active, v),
+            Kind::ENTER => puts::enter_active(&mut t.active, v),
             Kind::CLOCK => t.clock = v,
-            Kind::XMIN => fields::put_txid(&mut t.xmin, at, v),
-            Kind::NEXT => fields::put_number(&mut t.next, at, low),
+            Kind::XMIN => puts::put_txid(&mut t.xmin, at, v),
+            Kind::NEXT => puts::put_number(&mut t.next, at, low),
             Kind::KEY => {
-                fields::put_number(&mut t.key, at, low);
-                fields::put_flag(&mut t.has, at, true);
+                puts::put_number(&mut t.key, at, low);
+                puts::put_flag(&mut t.has, at, true);
             }
             Kind::LOCK => {
-                fields::put_txid(&mut t.owner, at, v);
-                fields::put_flag(&mut t.locked, at, true);
+                puts::put_txid(&mut t.owner, at, v);
+                puts::put_flag(&mut t.locked, at, true);
             }
             _ => {}
         }

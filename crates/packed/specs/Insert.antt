@@ -10,7 +10,7 @@ use lib.Seq.{length-take-le, take-suc-set, take-set-lt, take-take, getD-take, dr
 use lib.Dec.{ltb}
 use borrow.Author.Tests.{ltb-true, ltb-false, eq-eqb, ne-eqb, lt-ltb, le-ltb}
 use Rattle.rules.specs.Lists.{into, pad}
-use Rattle.rules.specs.Bools.{by}
+use Rattle.basic_laws.specs.Cases.{by}
 use Rattle.packed.specs.Packed.{Packed, take-within}
 
 -- how many numbers come before the first that is not below v

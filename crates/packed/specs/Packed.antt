@@ -7,7 +7,7 @@ use native.Mathlib.Omega.{arith}
 use lib.ListN.{length, set, take, length-set}
 use lib.Seq.{length-take-le, take-all, take-suc-set}
 use Rattle.rules.specs.Lists.{pad}
-use Rattle.view.specs.Pad.{pad-over, take-clip}
+use Rattle.fields.specs.Pad.{pad-over, take-clip}
 
 -- the array x of so many places is the list l laid out, r its length
 pub record Packed (l : List ℕ) (size : ℕ) (x : List ℕ) (r : ℕ) : Type 0 where

@@ -9,7 +9,7 @@ use lib.Seq.{take-suc-set, take-set-lt, drop-set-lt, slice, slice-empty, slice-c
 use lib.Dec.{eqb}
 use borrow.Author.Tests.{eq-eqb, ne-eqb}
 use Rattle.rules.specs.Lists.{without, beforeZero}
-use Rattle.rules.specs.Bools.{by}
+use Rattle.basic_laws.specs.Cases.{by}
 
 -- the first m without v: a number other than v stays, and takes the next place; v does not
 module _ (v : ℕ) (x : List ℕ) (k i m : ℕ) (kept : k ≤ i) (lt : i < m) (le : m ≤ length x) where

@@ -8,7 +8,7 @@ ghost use lib.Seq.{slice};
 ghost use Rattle.rules.specs.Lists.{into, without, pad, beforeZero};
 ghost use Rattle.packed.specs.Packed.{Packed};
 ghost use Rattle.packed.specs.Insert.{ahead};
-use view::lent::clipped;
+use fields::lent::clipped;
 
 // Zeroes every place from `from` on.
 fn clear(x: &mut [u64], from: usize)

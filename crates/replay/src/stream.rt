@@ -1,9 +1,9 @@
 // A script read from a file, replayed as it comes, and its answers written to standard output.
 
-use desk::feed::Replay;
-use desk::feed::feed;
-use desk::feed::finish;
-use desk::feed::start;
+use replay_core::feed::Replay;
+use replay_core::feed::feed;
+use replay_core::feed::finish;
+use replay_core::feed::start;
 use libc::STDOUT_FILENO;
 
 // Room for answers; a part of a script that needs more is answered in several writes.

@@ -3,12 +3,12 @@ use mathlib.Core.Path.{_≡_, ap}
 use mathlib.Core.Bool.{Bool, false}
 use mathlib.Core.List.{List, []}
 use Prim.Native.Nat.{ℕ}
-use Rattle.types.specs.Limits.{rows, places, postingLimit, stripes, partitions, activeLimit}
+use Rattle.records.specs.Limits.{rows, places, postingLimit, stripes, partitions, activeLimit}
 use Rattle.rules.specs.Types.{Store}
 use Rattle.rules.specs.Store.{slotsInForm, postingsOf, postingsInForm}
 use Rattle.rules.specs.Admitted.{repairable, resting}
-use Rattle.laws.specs.Sized.{Sized}
-use Rattle.view.specs.Lent.{array, array-same, atRows, atPlaces, flagsAtPlaces}
+use Rattle.statements.specs.Sized.{Sized}
+use Rattle.fields.specs.Lent.{array, array-same, atRows, atPlaces, flagsAtPlaces}
 
 -- stamps and durably bound are no part of any admission test
 abbrev pub lentStore : List ℕ → List ℕ → List ℕ → List ℕ → List ℕ → List Bool → List Bool → List ℕ → List ℕ → ℕ → List ℕ → List ℕ → List ℕ → ℕ → Bool → ℕ → Store

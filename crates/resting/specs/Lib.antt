@@ -1,11 +1,11 @@
 -- The tests on the active list, the chains, the slots and the postings, a turn at a time.
-pub mod Scan
-pub mod Active
-pub mod Versions
+pub mod PairScan
+pub mod ActiveForm
+pub mod VersionTurns
 pub mod Used
-pub mod Posted
-pub mod Told
+pub mod PostingForm
+pub mod PostingsTold
 pub mod Lending
-pub mod Form
+pub mod SlotForm
 -- The store's tests as rows of those.
 pub mod Row

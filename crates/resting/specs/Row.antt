@@ -7,21 +7,21 @@ use borrow.Author.Tests.{eq-eqb, ne-eqb}
 use lib.ListN.{length, getD, take}
 use lib.Seq.{length-take-le}
 use lib.Dec.{eqb, ltb, leb}
-use Rattle.types.specs.Limits.{rows, postingLimit, stripes, partitions, activeLimit}
+use Rattle.records.specs.Limits.{rows, postingLimit, stripes, partitions, activeLimit}
 use Rattle.rules.specs.Types.{Store}
 use Rattle.rules.specs.Lists.{all, every, eachOr, those, same, allZero, isZero, nonzero}
 use Rattle.rules.specs.Store.{usedSlots, slotsInForm, postingsOf, postingsInForm, activeInForm}
 use Rattle.rules.specs.Chains.{walk}
 use Rattle.rules.specs.Admitted.{offOk, restsAt, repairable, resting, headPostings}
-use Rattle.laws.specs.Lists.{Each}
-use Rattle.view.specs.Lent.{array, array-length, atRows, atPlaces, flagsAtPlaces}
-use Rattle.view.specs.Every.{Holds, every-fails, every-last}
+use Rattle.basic_laws.specs.Members.{Each}
+use Rattle.fields.specs.Lent.{array, array-length, atRows, atPlaces, flagsAtPlaces}
+use Rattle.fields.specs.Every.{Holds, every-fails, every-last}
 use Rattle.resting.specs.Lending.{lentStore}
-use Rattle.view.specs.Walked.{marks-array}
-use Rattle.resting.specs.Versions.{fin, chainAt}
+use Rattle.fields.specs.Walked.{marks-array}
+use Rattle.resting.specs.VersionTurns.{fin, chainAt}
 use Rattle.resting.specs.Used.{offAt, restAt}
-use Rattle.resting.specs.Posted.{postingsForm, form-count, form-rises, toldAt}
-use Rattle.resting.specs.Told.{told-same}
+use Rattle.resting.specs.PostingForm.{postingsForm, form-count, form-rises, toldAt}
+use Rattle.resting.specs.PostingsTold.{told-same}
 
 -- the rules for slots, under the marks of a walk
 module _ (xmin xmax next act : List ℕ) (doomed : ℕ) (seen marks l : List ℕ) (e : atPlaces seen ≡ marks) where

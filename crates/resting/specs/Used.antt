@@ -7,11 +7,11 @@ use native.Mathlib.Numerals.{add-one}
 use borrow.Author.Tests.{eq-eqb, ne-eqb, le-leb, lt-leb}
 use lib.ListN.{getD, drop}
 use lib.Dec.{eqb}
-use Rattle.types.specs.Limits.{slots, places}
+use Rattle.records.specs.Limits.{slots, places}
 use Rattle.rules.specs.Lists.{all, nonzeroFrom}
 use Rattle.rules.specs.Admitted.{offOk, restsAt}
-use Rattle.view.specs.Lent.{array, array-at, array-cons, array-end, atPlaces}
-use Rattle.resting.specs.Versions.{fin}
+use Rattle.fields.specs.Lent.{array, array-at, array-cons, array-end, atPlaces}
+use Rattle.resting.specs.VersionTurns.{fin}
 
 -- every used slot from i on passes
 unfoldable pub usedLeft : (ℕ → Bool) → ℕ → List ℕ → ℕ → Bool

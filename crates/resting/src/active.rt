@@ -2,14 +2,14 @@
 
 ghost use mathlib.Core.Path.{_≡_};
 ghost use lib.ListN.{drop};
-ghost use Rattle.types.specs.Limits.{activeLimit};
+ghost use Rattle.records.specs.Limits.{activeLimit};
 ghost use Rattle.rules.specs.Lists.{allZero};
 ghost use Rattle.rules.specs.Store.{activeInForm};
 ghost use Rattle.rules.specs.Admitted.{finished};
-ghost use Rattle.view.specs.Lent.{array};
-use types::Txid;
-use view::lent::zeros_from;
-use view::txids;
+ghost use Rattle.fields.specs.Lent.{array};
+use records::Txid;
+use fields::lent::zeros_from;
+use fields::txids;
 
 // Zero from place n on.
 pub fn zero_from(txids: &[u64; Txid::ACTIVE], n: usize) -> bool

@@ -2,19 +2,19 @@
 
 ghost use mathlib.Core.Path.{_≡_};
 ghost use Prim.Native.Nat.{_<_};
-ghost use Rattle.types.specs.Limits.{places};
+ghost use Rattle.records.specs.Limits.{places};
 ghost use Rattle.rules.specs.Lists.{all};
 ghost use Rattle.rules.specs.Store.{usedSlots};
-ghost use Rattle.view.specs.Lent.{atRows, atPlaces};
-ghost use Rattle.resting.specs.Versions.{tailAt, chainAt};
+ghost use Rattle.fields.specs.Lent.{atRows, atPlaces};
+ghost use Rattle.resting.specs.VersionTurns.{tailAt, chainAt};
 ghost use Rattle.resting.specs.Used.{offAt, settledBy, restAt};
 use super::active::is_finished;
 use super::lent::txid_at;
 use super::lent::word_at;
-use types::RowId;
-use types::SlotPtr;
-use types::Txid;
-use view::lent::place;
+use records::RowId;
+use records::SlotPtr;
+use records::Txid;
+use fields::lent::place;
 
 // Finished versions of at most `left` slots from p on, the first with xmax `over`, each next one with the xmin before it.
 fn tail_ok<'a>(

@@ -3,8 +3,8 @@
 ghost use mathlib.Core.Path.{_≡_};
 ghost use mathlib.Core.Bool.{false};
 ghost use lib.ListN.{getD};
-ghost use Rattle.view.specs.Lent.{atPlaces, flagsAtPlaces};
-use types::SlotPtr;
+ghost use Rattle.fields.specs.Lent.{atPlaces, flagsAtPlaces};
+use records::SlotPtr;
 
 // A txid of a slot.
 pub fn txid_at(a: &[u64; SlotPtr::PLACES], p: u32) -> u64

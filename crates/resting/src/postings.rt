@@ -5,17 +5,17 @@ ghost use mathlib.Core.Bool.{_&&_, false};
 ghost use Prim.Native.Nat.{suc, _≤_};
 ghost use lib.ListN.{length, getD, take, drop};
 ghost use lib.Dec.{eqb};
-ghost use Rattle.types.specs.Limits.{postingLimit};
+ghost use Rattle.records.specs.Limits.{postingLimit};
 ghost use Rattle.rules.specs.Lists.{all, allZero, those};
-ghost use Rattle.view.specs.Lent.{array, atRows, flagsAtPlaces};
-ghost use Rattle.view.specs.Climb.{climb};
-ghost use Rattle.resting.specs.Posted.{keyed, postingsForm, toldAt};
+ghost use Rattle.fields.specs.Lent.{array, atRows, flagsAtPlaces};
+ghost use Rattle.fields.specs.Climb.{climb};
+ghost use Rattle.resting.specs.PostingForm.{keyed, postingsForm, toldAt};
 use super::lent::flag_at;
 use super::lent::word_at;
-use types::RowId;
-use types::SlotPtr;
-use types::Store;
-use view::lent::zeros_from;
+use records::RowId;
+use records::SlotPtr;
+use records::Store;
+use fields::lent::zeros_from;
 
 // past the postings of the largest key
 const END: u64 = 4294967296 * ROWS;

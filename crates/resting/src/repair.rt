@@ -5,7 +5,7 @@ ghost use mathlib.Core.Bool.{false};
 ghost use mathlib.Core.List.{[]};
 ghost use Rattle.rules.specs.Chains.{walk};
 ghost use Rattle.rules.specs.Admitted.{repairable};
-ghost use Rattle.view.specs.Lent.{atRows, atPlaces};
+ghost use Rattle.fields.specs.Lent.{atRows, atPlaces};
 ghost use Rattle.resting.specs.Lending.{lentStore};
 use super::active::active_in_form;
 use super::chains::chains_ok;
@@ -13,11 +13,11 @@ use super::chains::off_slots_ok;
 use super::slots::slots_in_form;
 use super::slots::used_if_marked;
 use super::slots::xmins_below;
-use types::RowId;
-use types::SlotPtr;
-use types::Store;
-use types::Txid;
-use view::walk::walk_all;
+use records::RowId;
+use records::SlotPtr;
+use records::Store;
+use records::Txid;
+use fields::walk::walk_all;
 
 // The store with these fields is repairable; `seen` comes back with the marks of the walk.
 pub(crate) fn repairable_of<'a>(

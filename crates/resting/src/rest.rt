@@ -3,7 +3,7 @@
 ghost use mathlib.Core.Path.{_≡_};
 ghost use Rattle.rules.specs.Chains.{walk};
 ghost use Rattle.rules.specs.Admitted.{resting};
-ghost use Rattle.view.specs.Lent.{atRows, atPlaces};
+ghost use Rattle.fields.specs.Lent.{atRows, atPlaces};
 ghost use Rattle.resting.specs.Lending.{lentStore};
 use super::chains::chains_rest;
 use super::guards::no_partition_held;
@@ -11,10 +11,10 @@ use super::guards::no_stripe_held;
 use super::postings::postings_in_form;
 use super::postings::postings_told;
 use super::repair::repairable_of;
-use types::RowId;
-use types::SlotPtr;
-use types::Store;
-use types::Txid;
+use records::RowId;
+use records::SlotPtr;
+use records::Store;
+use records::Txid;
 
 // The store with these fields is at rest; `seen` comes back with the marks of the walk.
 fn resting_of<'a>(

@@ -6,11 +6,11 @@ ghost use mathlib.Core.List.{[]};
 ghost use lib.Dec.{ltb};
 ghost use Rattle.rules.specs.Lists.{all, every, eachOr, isZero, nonzero};
 ghost use Rattle.rules.specs.Store.{slotsInForm};
-ghost use Rattle.view.specs.Lent.{atPlaces};
+ghost use Rattle.fields.specs.Lent.{atPlaces};
 ghost use Rattle.resting.specs.Lending.{lentStore};
-ghost use Rattle.resting.specs.Form.{slotForm};
+ghost use Rattle.resting.specs.SlotForm.{slotForm};
 use super::lent::txid_at;
-use types::SlotPtr;
+use records::SlotPtr;
 
 // One slot.
 fn slot_in_form(

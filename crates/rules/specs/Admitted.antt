@@ -4,7 +4,7 @@ use mathlib.Core.List.{List, [], _∷_}
 use Prim.Native.Nat.{ℕ, suc}
 use lib.ListN.{getD}
 use lib.Dec.{eqb, ltb, leb}
-use Rattle.types.specs.Limits.{slots, places}
+use Rattle.records.specs.Limits.{slots, places}
 use Rattle.rules.specs.Lists.{all, every, eachOr, memb, same, allZero, isZero, nonzero, into}
 use Rattle.rules.specs.Types.{Store}
 use Rattle.rules.specs.Store.{usedSlots, slotsInForm, posting, postingsOf, postingsInForm, activeInForm}

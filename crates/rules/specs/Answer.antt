@@ -4,10 +4,10 @@ use mathlib.Core.List.{[], _∷_}
 use Prim.Native.Nat.{ℕ}
 use lib.ListN.{length, take, replicate}
 use lib.Dec.{ltb, leb}
-use Rattle.types.specs.Limits.{writeLimit}
+use Rattle.records.specs.Limits.{writeLimit}
 use Rattle.rules.specs.Lists.{memb, pad}
 use Rattle.rules.specs.Types.{Store, Tx, Schedule, Record, Events, Answer, Cut, Uncut, After, Open, Closed, Refusal, Done, NotResting, Unfit, NotActive, CutOff}
-use Rattle.types.specs.Zero.{noWrite, zeroTx}
+use Rattle.records.specs.Zero.{noWrite, zeroTx}
 use Rattle.rules.specs.Store.{activeTxids}
 use Rattle.rules.specs.Transaction.{finals}
 use Rattle.rules.specs.Admitted.{resting}

@@ -4,11 +4,11 @@ use mathlib.Core.List.{List, [], _∷_, _++_, map}
 use Prim.Native.Nat.{ℕ, suc}
 use lib.ListN.{length, getD, drop, replicate}
 use lib.Dec.{eqb, ltb, leb}
-use Rattle.types.specs.Limits.{rows, activeLimit, writeLimit, readLimit, clockEnd, places}
+use Rattle.records.specs.Limits.{rows, activeLimit, writeLimit, readLimit, clockEnd, places}
 use Rattle.rules.specs.Lists.{any, memb, those, pad, inOrder, firstOf, firstZero}
 use Rattle.rules.specs.Types.{Store, Tx, RowId, ReadRecord, IndexRead, Reply, Seen, Written, Found, Value, Absent, Key, Open, Closed}
 use Rattle.rules.specs.Types.{Refusal, NotResting, Unfit, NotActive, FoundPoisoned, ActiveFull, ClockAtEnd, RowTooHigh, ReadsFull, WritesFull, SlotsFull, LockedByAnother, NoHead}
-use Rattle.types.specs.Zero.{onlyTxid, zeroTx}
+use Rattle.records.specs.Zero.{onlyTxid, zeroTx}
 use Rattle.rules.specs.Store.{valueAt, sameValue, keyOf, rowOf, stripeOf, postingsOf, activeTxids}
 use Rattle.rules.specs.Transaction.{writesOf, readsOf, indexReadsOf, sees, lastOwn, withWrites, withReads, withIndexReads}
 use Rattle.rules.specs.Chains.{chainFrom}

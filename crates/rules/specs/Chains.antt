@@ -4,7 +4,7 @@ use mathlib.Core.List.{List, [], _∷_}
 use Prim.Native.Nat.{ℕ, zero, suc}
 use lib.ListN.{getD, set}
 use lib.Dec.{eqb, ltb}
-use Rattle.types.specs.Limits.{slots, places, noMarks}
+use Rattle.records.specs.Limits.{slots, places, noMarks}
 
 -- the chain that starts at p
 unfoldable pub chainFrom : ℕ → List ℕ → ℕ → List ℕ

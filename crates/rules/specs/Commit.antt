@@ -6,7 +6,7 @@ use lib.ListN.{length, take}
 use lib.Dec.{eqb, ltb}
 use Rattle.rules.specs.Types.{Store, Tx, Schedule, Fate, Open, Undone, Standing}
 use Rattle.rules.specs.Types.{Refusal, Done, StepFailed, PrepareFailed, PreparePanicked, Conflict, BoundDurably, FoundPoisoned, InsertFailed, CallbackFailed, CallbackPanicked, RemoveFailed, PublishFailed, RecycleFailed, FinishFailed, StampFailed, CleanupFailed}
-use Rattle.types.specs.Zero.{onlyTxid}
+use Rattle.records.specs.Zero.{onlyTxid}
 use Rattle.rules.specs.Transaction.{finals, noWrites, noAccesses, emptied}
 use Rattle.rules.specs.Faults.{F, B, P, X, Q, faultsOf, faultAt}
 use Rattle.rules.specs.Numbers.{fate}

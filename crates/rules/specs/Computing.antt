@@ -1,7 +1,7 @@
 -- `unfolding computing` opens every definition, for laws that compute.
 use Prim.Native.Nat.{ℕ}
-use Rattle.types.specs.Limits.{noMarks}
-use Rattle.types.specs.Zero.{emptyStore, fresh, onlyTxid, zeroTx, noFaults}
+use Rattle.records.specs.Limits.{noMarks}
+use Rattle.records.specs.Zero.{emptyStore, fresh, onlyTxid, zeroTx, noFaults}
 use Rattle.rules.specs.Lists.{every}
 use Rattle.rules.specs.Store.{slotsInForm, postingsOf, postingsInForm, activeInForm}
 use Rattle.rules.specs.Transaction.{sees, finals}

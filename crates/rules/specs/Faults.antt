@@ -6,7 +6,7 @@ use lib.ListN.{getD, take}
 use lib.Dec.{eqb}
 use Rattle.rules.specs.Lists.{all, memb, sum}
 use Rattle.rules.specs.Types.{Fault, Schedule}
-use Rattle.types.specs.Zero.{noFault}
+use Rattle.records.specs.Zero.{noFault}
 
 -- "F fail, k after k stores clipped to the step's number, B busy, P panic, X fail and poison, Q panic and poison": the letters in ASCII
 abbrev pub F : ℕ

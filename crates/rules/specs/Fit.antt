@@ -4,7 +4,7 @@ use mathlib.Core.List.{List, [], _∷_}
 use Prim.Native.Nat.{ℕ}
 use lib.ListN.{getD, drop}
 use lib.Dec.{eqb, ltb, leb}
-use Rattle.types.specs.Limits.{rows, slots, stripes, activeLimit, writeLimit, readLimit, indexReadLimit, savepointLimit}
+use Rattle.records.specs.Limits.{rows, slots, stripes, activeLimit, writeLimit, readLimit, indexReadLimit, savepointLimit}
 use Rattle.rules.specs.Lists.{all, every, allZero, nonFalling}
 use Rattle.rules.specs.Types.{Store, Tx, Write, ReadRecord, IndexRead}
 use Rattle.rules.specs.Store.{used}

@@ -1,4 +1,5 @@
--- The definitions, in document 01's order, then the laws about them. Limits and empty values are in the crate `types`.
+-- The definitions, in document 01's order, and its worked examples. Limits and empty values are in the crate `records`, the words in which
+-- the demands are put in `statements`, laws in `basic_laws` and `run_laws`.
 -- passed on, and plain things on lists
 pub mod Types
 pub mod Lists
@@ -24,18 +25,6 @@ pub mod Answer
 -- "Replay"
 pub mod Replay
 pub mod Script
--- laws: "Mornings at a limit", the four tests
+-- "Mornings at a limit" and the example of "Replay", computed
 pub mod Computing
 pub mod Mornings
-pub mod TestLaws
--- laws: how a run ends, and what each number leaves
-pub mod Bools
-pub mod Only
-pub mod Guards
-pub mod Outcome
-pub mod Rows
-pub mod Released
-pub mod Aftermath
-pub mod Cutting
-pub mod EventLaws
-pub mod Gates

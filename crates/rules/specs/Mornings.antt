@@ -5,7 +5,7 @@ use mathlib.Core.List.{List, [], _∷_, _++_}
 use Prim.Native.Nat.{ℕ}
 use lib.ListN.{getD}
 use Rattle.rules.specs.Types.{Key, Uncut, After}
-use Rattle.types.specs.Zero.{emptyStore}
+use Rattle.records.specs.Zero.{emptyStore}
 use Rattle.rules.specs.Replay.{Line, lineB, lineR, lineW, lineC, lineV, num, dash, Out, says, Desk, deskOf, Turn, start, turn}
 use Rattle.rules.specs.Script.{replayText}
 use Rattle.rules.specs.Computing.{computing}

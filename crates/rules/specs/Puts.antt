@@ -5,7 +5,7 @@ use mathlib.Core.List.{List, [], _∷_, _++_, map}
 use Prim.Native.Nat.{ℕ}
 use lib.ListN.{length, getD, set}
 use lib.Dec.{eqb}
-use Rattle.types.specs.Limits.{postingLimit, activeLimit}
+use Rattle.records.specs.Limits.{postingLimit, activeLimit}
 use Rattle.rules.specs.Lists.{into, without, those, pad}
 use Rattle.rules.specs.Types.{Store, Value, Absent, Key}
 use Rattle.rules.specs.Store.{usedSlots, postingsOf, activeTxids}

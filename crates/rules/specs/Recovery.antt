@@ -4,7 +4,7 @@ use mathlib.Core.List.{List, [], _∷_, map}
 use Prim.Native.Nat.{ℕ}
 use lib.ListN.{length, getD, set, replicate}
 use lib.Dec.{eqb}
-use Rattle.types.specs.Limits.{stripes, partitions, postingLimit, activeLimit, places}
+use Rattle.records.specs.Limits.{stripes, partitions, postingLimit, activeLimit, places}
 use Rattle.rules.specs.Lists.{keep, pad}
 use Rattle.rules.specs.Types.{Store, Mended, Open, Done, NotRepairable}
 use Rattle.rules.specs.Chains.{walk}

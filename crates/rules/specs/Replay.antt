@@ -4,10 +4,10 @@ use mathlib.Core.List.{List, [], _∷_, _++_}
 use Prim.Native.Nat.{ℕ, suc}
 use lib.ListN.{getD, set, replicate}
 use lib.Dec.{ltb}
-use Rattle.types.specs.Limits.{placeLimit, faultLimit}
+use Rattle.records.specs.Limits.{placeLimit, faultLimit}
 use Rattle.rules.specs.Lists.{pad}
 use Rattle.rules.specs.Types.{Store, Tx, Fault, Schedule, Value, Absent, Key, Cut}
-use Rattle.types.specs.Zero.{fresh, zeroTx, noFault, noFaults}
+use Rattle.records.specs.Zero.{fresh, zeroTx, noFault, noFaults}
 use Rattle.rules.specs.Faults.{faultsOf}
 use Rattle.rules.specs.Numbers.{numberOf, isDone}
 use Rattle.rules.specs.Calls.{begin, read, write, lookup, rowLock, abort}

@@ -3,7 +3,7 @@ use mathlib.Core.Bool.{Bool, true, false, not, cond, _&&_}
 use mathlib.Core.List.{List, [], _∷_, map}
 use Prim.Native.Nat.{ℕ, zero, suc, _+_, _-_, _*_, _/_, _%_}
 use lib.Dec.{eqb, ltb, leb}
-use Rattle.types.specs.Limits.{keyEnd, placeLimit}
+use Rattle.records.specs.Limits.{keyEnd, placeLimit}
 use Rattle.rules.specs.Lists.{all}
 use Rattle.rules.specs.Types.{Value, Absent, Key, Uncut, After}
 use Rattle.rules.specs.Replay.{Line, lineB, lineR, lineW, lineL, lineK, lineA, lineC, lineF, lineV, lineBad, Third, num, dash, Out, replay}

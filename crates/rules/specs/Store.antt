@@ -4,7 +4,7 @@ use mathlib.Core.List.{List, [], _∷_}
 use Prim.Native.Nat.{ℕ, _+_, _*_, _/_, _%_}
 use lib.ListN.{length, getD, take, drop}
 use lib.Dec.{eqb, ltb, leb}
-use Rattle.types.specs.Limits.{rows, postingLimit, stripes, partitions, keyEnd}
+use Rattle.records.specs.Limits.{rows, postingLimit, stripes, partitions, keyEnd}
 use Rattle.rules.specs.Lists.{all, every, eachOr, nonzeroFrom, allZero, isZero, nonzero, beforeZero, rising}
 use Rattle.rules.specs.Types.{Store, Value, Absent, Key}
 

@@ -4,10 +4,10 @@ use mathlib.Core.List.{List, [], _∷_}
 use Prim.Native.Nat.{ℕ}
 use lib.ListN.{length, take}
 use lib.Dec.{eqb, ltb}
-use Rattle.types.specs.Limits.{writeLimit, readLimit, indexReadLimit, savepointLimit}
+use Rattle.records.specs.Limits.{writeLimit, readLimit, indexReadLimit, savepointLimit}
 use Rattle.rules.specs.Lists.{memb, any, pad}
 use Rattle.rules.specs.Types.{Tx, Write, ReadRecord, IndexRead}
-use Rattle.types.specs.Zero.{noWrite, noRead, noIndexRead}
+use Rattle.records.specs.Zero.{noWrite, noRead, noIndexRead}
 
 abbrev pub writesOf : Tx → List Write
 writesOf x = take (x .«write_count») (x .writes)

@@ -3,7 +3,7 @@
 ghost use mathlib.Core.Path.{_≡_};
 ghost use lib.ListN.{getD};
 ghost use Rattle.rules.specs.Faults.{masks};
-use types::Schedule;
+use records::Schedule;
 
 // What a step allows, as a mask; a number that is no step's allows nothing.
 pub fn allowed_at(step: u32) -> u8

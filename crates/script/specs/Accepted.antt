@@ -6,13 +6,13 @@ use mathlib.Core.Logic.{_↔_}
 use Prim.Native.Nat.{ℕ, _<_, _≤_}
 use native.Mathlib.Omega.{arith}
 use borrow.Author.Tests.{lt-ltb, le-leb, ne-eqb}
-use Rattle.types.specs.Limits.{keyEnd, placeLimit}
+use Rattle.records.specs.Limits.{keyEnd, placeLimit}
 use Rattle.rules.specs.Lists.{all}
-use Rattle.rules.specs.Bools.{by, clash, and-true}
+use Rattle.basic_laws.specs.Cases.{by, clash, and-true}
 use Rattle.rules.specs.Types.{Value, Absent, Key, Uncut, After}
 use Rattle.rules.specs.Replay.{Line, lineB, lineR, lineW, lineL, lineK, lineA, lineC, lineF, lineV, lineBad}
 use Rattle.rules.specs.Script.{Bytes, split, isDigit, isNumber, valueOf, number, place, is, value, mode, letter, lineOf, decimal}
-use Rattle.script.specs.Only.{only-text}
+use Rattle.script.specs.OnlyText.{only-text}
 use Rattle.script.specs.FieldLaws.{digit}
 use Rattle.script.specs.Decimal.{number-reads, number-digits}
 use Rattle.script.specs.Print.{inDecimal}

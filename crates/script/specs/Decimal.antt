@@ -7,9 +7,9 @@ use native.Mathlib.Omega.{arith}
 use lib.Dec.{eqb, ltb}
 use lib.ListN.{length, getD}
 use borrow.Author.Tests.{ltb-true, ltb-false, le-leb, lt-ltb, ne-eqb, not-true, eqb-false}
-use Rattle.types.specs.Limits.{keyEnd}
+use Rattle.records.specs.Limits.{keyEnd}
 use Rattle.rules.specs.Lists.{all}
-use Rattle.rules.specs.Bools.{by, clash, and-true}
+use Rattle.basic_laws.specs.Cases.{by, clash, and-true}
 use Rattle.rules.specs.Script.{Bytes, isDigit, valueOf, isNumber, decimal}
 use Rattle.script.specs.FieldLaws.{digit}
 use Rattle.script.specs.PrintLaws.{digit-last, digit-more}

@@ -9,9 +9,9 @@ use lib.Dec.{eqb, ltb, leb}
 use lib.ListN.{length, getD, drop, drop-of-length-le}
 use lib.Seq.{drop-cons}
 use borrow.Author.Tests.{lt-ltb, le-ltb, le-leb, lt-leb, ltb-true, ltb-false, leb-true, ne-eqb}
-use Rattle.types.specs.Limits.{keyEnd, placeLimit}
+use Rattle.records.specs.Limits.{keyEnd, placeLimit}
 use Rattle.rules.specs.Lists.{all}
-use Rattle.rules.specs.Bools.{by, and-true}
+use Rattle.basic_laws.specs.Cases.{by, and-true}
 use Rattle.rules.specs.Types.{Absent, Key}
 use Rattle.rules.specs.Script.{Bytes, isDigit, isNumber, valueOf, is}
 use Rattle.script.specs.declared.field.Num.the-variants.{Is, No}

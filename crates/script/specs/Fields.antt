@@ -3,7 +3,7 @@ use mathlib.Core.Bool.{true, false, cond, _&&_}
 use mathlib.Core.List.{[], _∷_}
 use Prim.Native.Nat.{ℕ, _+_, _-_, _*_}
 use lib.Dec.{ltb, leb}
-use Rattle.types.specs.Limits.{keyEnd, placeLimit}
+use Rattle.records.specs.Limits.{keyEnd, placeLimit}
 use Rattle.rules.specs.Types.{Absent, Key}
 use Rattle.rules.specs.Script.{Bytes, isDigit, isNumber, valueOf, is}
 use Rattle.script.specs.declared.field.Num.{Num}

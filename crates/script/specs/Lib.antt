@@ -1,15 +1,15 @@
 -- What the code's answers mean.
-pub mod Meaning
+pub mod LineMeaning
 pub mod Fields
 pub mod Print
 -- Laws that the code's proofs cite.
 pub mod FieldLaws
-pub mod Forms
+pub mod LineForms
 pub mod Split
 pub mod PrintLaws
 -- Which texts are read, and as what.
 pub mod Decimal
 pub mod Text
 pub mod Tabs
-pub mod Only
+pub mod OnlyText
 pub mod Accepted

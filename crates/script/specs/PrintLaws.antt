@@ -7,7 +7,7 @@ use lib.Dec.{ltb}
 use lib.ListN.{length, drop, set}
 use lib.Seq.{drop-cons, drop-set-lt, getD-set-same, lt-length-set}
 use borrow.Author.Tests.{lt-ltb, le-ltb, ltb-true, ltb-false}
-use Rattle.rules.specs.Bools.{by}
+use Rattle.basic_laws.specs.Cases.{by}
 use Rattle.rules.specs.Replay.{Third, num, dash, Out, says}
 use Rattle.rules.specs.Script.{Bytes, decimal, third, write}
 use Rattle.script.specs.Print.{digits, inDecimal, thirdText}

@@ -6,7 +6,7 @@ use Prim.Native.Nat.{ℕ}
 use lib.Dec.{eqb}
 use borrow.Author.Tests.{eqb-true, not-true}
 use Rattle.rules.specs.Lists.{all}
-use Rattle.rules.specs.Bools.{by, and-true}
+use Rattle.basic_laws.specs.Cases.{by, and-true}
 use Rattle.rules.specs.Script.{Bytes, onFirst, split}
 use Rattle.script.specs.Text.{tabbed}
 

@@ -2,7 +2,7 @@
 use mathlib.Core.Bool.{Bool, true, false}
 use mathlib.Core.List.{List, [], _∷_, _++_}
 use Prim.Native.Nat.{ℕ, _<_, _≤_}
-use Rattle.types.specs.Limits.{keyEnd, placeLimit}
+use Rattle.records.specs.Limits.{keyEnd, placeLimit}
 use Rattle.rules.specs.Types.{Value, Absent, Key, Cut, Uncut, After}
 use Rattle.rules.specs.Replay.{Line, lineB, lineR, lineW, lineL, lineK, lineA, lineC, lineF, lineV, lineBad}
 use Rattle.rules.specs.Script.{Bytes}

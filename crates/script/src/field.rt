@@ -7,7 +7,7 @@ ghost use Rattle.rules.specs.Script.{is};
 ghost use Rattle.script.specs.Fields.{numFrom, numOf, placeOf, valueIn, modeOf, letterOf};
 ghost use Rattle.script.specs.Split.{upTo};
 use crate::Line;
-use types::Value;
+use records::Value;
 
 pub enum Num {
     Is(u32),

@@ -3,16 +3,16 @@
 ghost use mathlib.Core.Path.{_≡_};
 ghost use mathlib.Core.List.{[], _∷_};
 ghost use Rattle.rules.specs.Script.{split, form};
-ghost use Rattle.script.specs.Meaning.{meaning};
+ghost use Rattle.script.specs.LineMeaning.{meaning};
 use crate::Line;
 use crate::field;
 use crate::field::Byte;
 use crate::field::Given;
 use crate::field::Logged;
 use crate::field::Num;
-use types::Cut;
-use types::Fault;
-use types::RowId;
+use records::Cut;
+use records::Fault;
+use records::RowId;
 
 pub fn no_field(c: u8) -> Line
     ensures { λ r. ⌜ meaning r ≡ form c [] ⌝ }

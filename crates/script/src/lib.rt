@@ -7,11 +7,11 @@ pub mod refusal;
 
 ghost use mathlib.Core.Path.{_≡_};
 ghost use Rattle.rules.specs.Script.{split, lineOf};
-ghost use Rattle.script.specs.Meaning.{meaning};
-use types::Cut;
-use types::Fault;
-use types::RowId;
-use types::Value;
+ghost use Rattle.script.specs.LineMeaning.{meaning};
+use records::Cut;
+use records::Fault;
+use records::RowId;
+use records::Value;
 
 // A line of the script: a place is 0 to 15, any other number has 32 bits. `Bad`: "A line that isn't one of these forms is answered 2".
 pub enum Line {

@@ -2,7 +2,7 @@
 
 ghost use mathlib.Core.Path.{_≡_};
 ghost use Rattle.rules.specs.Numbers.{numberOf};
-use types::Refusal;
+use records::Refusal;
 
 pub fn number_of(why: Refusal) -> u64
     ensures { λ r. ⌜ r ≡ numberOf why ⌝ }

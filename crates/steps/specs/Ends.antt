@@ -9,18 +9,18 @@ use native.Mathlib.Omega.{arith}
 use lib.Seq.{getD-append-add}
 use lib.Dec.{eqb, leb}
 use borrow.Author.Tests.{leb-true, leb-false}
-use Rattle.types.specs.Zero.{onlyTxid}
-use Rattle.rules.specs.Bools.{by}
+use Rattle.records.specs.Zero.{onlyTxid}
+use Rattle.basic_laws.specs.Cases.{by}
 use Rattle.rules.specs.Types.{Store, Tx, Schedule, Open, Closed, Undone, Standing, Refusal, Done, StepFailed, PrepareFailed, PreparePanicked, Conflict, BoundDurably, FoundPoisoned, InsertFailed, CallbackFailed, CallbackPanicked, RemoveFailed, PublishFailed, RecycleFailed, FinishFailed, StampFailed, CleanupFailed}
 use Rattle.rules.specs.Transaction.{noWrites, noAccesses, emptied}
 use Rattle.rules.specs.Numbers.{fate, isDone}
 use Rattle.rules.specs.Faults.{F, P, X, Q, faultsOf, faultAt}
 use Rattle.rules.specs.Commit.{End, strikes, abortOrPoison, rollback, Run, committed, runOf}
-use Rattle.rules.specs.Gates.{gates, clean}
+use Rattle.run_laws.specs.Gates.{gates, clean}
 use Rattle.steps.specs.declared.ends.Ending.{Ending}
-use Rattle.asks.specs.Faults.{letterAt}
+use Rattle.commit_tests.specs.Striking.{letterAt}
 use Rattle.steps.specs.Stops.{cleanGate, hits, gateOf, run-at}
-use Rattle.steps.specs.Answers.{endWith}
+use Rattle.steps.specs.RecordAndEvents.{endWith}
 
 -- within a list it does not matter what is read past its end
 pub within {ℓ} : {A : Type ℓ} (l : List A) (i : ℕ) (d e : A) → i < length l → getD l i d ≡ getD l i e

@@ -1,4 +1,4 @@
 pub mod Stops
-pub mod Answers
+pub mod RecordAndEvents
 pub mod Ends
-pub mod Whole
+pub mod RunFound

@@ -7,18 +7,18 @@ use native.Mathlib.Nat.{add-zero, zero-add, add-suc, suc-add}
 use native.Mathlib.Omega.{arith}
 use lib.ListN.{length, getD}
 use lib.Dec.{eqb, ltb}
-use Rattle.rules.specs.Bools.{by}
+use Rattle.basic_laws.specs.Cases.{by}
 use Rattle.rules.specs.Types.{Store, Tx, Schedule}
 use Rattle.rules.specs.Transaction.{finals}
 use Rattle.rules.specs.Faults.{F, B, P, X, Q, faultsOf}
 use Rattle.rules.specs.Tests.{indexReadConflict, rowLockConflict, serializationConflict, writeBaseConflict}
 use Rattle.rules.specs.Commit.{strikes, Run, runOf}
-use Rattle.rules.specs.Gates.{Gate, first, gates, clean, run-gates}
-use Rattle.types.specs.Limits.{rows, places, stripes, activeLimit}
-use Rattle.asks.specs.declared.faults.Letters.{Letters}
-use Rattle.view.specs.Lent.{atRows, atPlaces, flagsAtPlaces, atActive, atStripes, array-same}
-use Rattle.asks.specs.Conflicts.{rowLockConflictOf, row-lock-of}
-use Rattle.asks.specs.Faults.{letters, letterAt, letters-say}
+use Rattle.run_laws.specs.Gates.{Gate, first, gates, clean, run-gates}
+use Rattle.records.specs.Limits.{rows, places, stripes, activeLimit}
+use Rattle.commit_tests.specs.declared.faults.Letters.{Letters}
+use Rattle.fields.specs.Lent.{atRows, atPlaces, flagsAtPlaces, atActive, atStripes, array-same}
+use Rattle.commit_tests.specs.Conflicts.{rowLockConflictOf, row-lock-of}
+use Rattle.commit_tests.specs.Striking.{letters, letterAt, letters-say}
 
 -- the place of the first test that holds; the number of tests if none does
 abbrev pub firstTrue : List Bool → ℕ

@@ -1,16 +1,16 @@
 // The record and the events that commit answers.
 
 ghost use mathlib.Core.Path.{_≡_};
-ghost use Rattle.steps.specs.Answers.{recordIf, eventsBy};
+ghost use Rattle.steps.specs.RecordAndEvents.{recordIf, eventsBy};
 use super::ends::Ending;
 use super::logic::both;
 use super::logic::either;
-use asks::finals::final_writes;
-use types::Events;
-use types::Record;
-use types::Tx;
-use types::Txid;
-use types::Write;
+use commit_tests::finals::final_writes;
+use records::Events;
+use records::Record;
+use records::Tx;
+use records::Txid;
+use records::Write;
 
 // The record is zero unless the commit is done: then it names the transaction and its final writes.
 pub fn record_of(done: bool, x: Tx) -> Record

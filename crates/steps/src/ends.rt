@@ -6,7 +6,7 @@ ghost use lib.ListN.{getD};
 ghost use Rattle.rules.specs.Types.{Closed, Undone, PrepareFailed, PreparePanicked, Conflict, FoundPoisoned, CallbackFailed, CallbackPanicked, CleanupFailed};
 ghost use Rattle.rules.specs.Numbers.{fate};
 ghost use Rattle.rules.specs.Faults.{P, X, Q};
-ghost use Rattle.types.specs.Zero.{onlyTxid};
+ghost use Rattle.records.specs.Zero.{onlyTxid};
 ghost use Rattle.steps.specs.Stops.{hits, letterIn};
 ghost use Rattle.steps.specs.Ends.{gateNumbers, gatePassed, gateLeft, stayEnding, abortEnding, insertEnding, callbackEnding, spoilEnding, abortFails, rollbackFails, endingFor, txFor};
 use super::gates::CLEAN;
@@ -14,11 +14,11 @@ use super::left::emptied;
 use super::left::no_accesses;
 use super::left::no_writes;
 use super::logic::either;
-use asks::faults::Letters;
-use look::changed::only_txid;
-use types::Fate;
-use types::Refusal;
-use types::Tx;
+use commit_tests::faults::Letters;
+use recording::changed::only_txid;
+use records::Fate;
+use records::Refusal;
+use records::Tx;
 
 // The refusal, and the four events that don't follow from the steps passed: a step poisons or finds poison, a preparation is to be cleaned up,
 // the insertions are undone, the transaction is finished though its commit failed.

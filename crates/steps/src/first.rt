@@ -3,21 +3,21 @@
 ghost use mathlib.Core.Path.{_≡_};
 ghost use Rattle.rules.specs.Faults.{faultsOf};
 ghost use Rattle.rules.specs.Tests.{indexReadConflict, serializationConflict, writeBaseConflict};
-ghost use Rattle.view.specs.Lent.{atRows, atPlaces, flagsAtPlaces, atActive, atStripes};
-ghost use Rattle.asks.specs.Conflicts.{rowLockConflictOf};
-ghost use Rattle.asks.specs.Faults.{letterAt};
+ghost use Rattle.fields.specs.Lent.{atRows, atPlaces, flagsAtPlaces, atActive, atStripes};
+ghost use Rattle.commit_tests.specs.Conflicts.{rowLockConflictOf};
+ghost use Rattle.commit_tests.specs.Striking.{letterAt};
 ghost use Rattle.steps.specs.Stops.{firstTrue, gateFrom, letterIn, openingTests, guardingTests, conflictTests, closingTests, gateTests};
 use super::gates;
 use super::gates::CLEAN;
-use asks::faults::Letters;
-use asks::faults::letters_of;
-use asks::tests;
-use types::RowId;
-use types::Schedule;
-use types::SlotPtr;
-use types::Store;
-use types::Tx;
-use types::Txid;
+use commit_tests::faults::Letters;
+use commit_tests::faults::letters_of;
+use commit_tests::conflicts;
+use records::RowId;
+use records::Schedule;
+use records::SlotPtr;
+use records::Store;
+use records::Tx;
+use records::Txid;
 
 // Steps 1 to 6: nothing is taken yet.
 fn opening(l: Letters, logged: bool) -> usize
@@ -79,22 +79,22 @@ fn testing<'a>(
 ) -> usize
     ensures { λ g. ⌜ g ≡ gateFrom 12 (conflictTests (letterIn l) (indexReadConflict (atStripes (now (stamps .entry))) x) (rowLockConflictOf (atRows (now (heads .entry))) (flagsAtPlaces (now (locked .entry))) (atPlaces (now (owner .entry))) (atActive (now (active .entry))) x) (serializationConflict (atPlaces (now (xmin .entry))) (atPlaces (now (xmax .entry))) x) (writeBaseConflict (atRows (now (heads .entry))) x)) ⌝ }
 {
-    let g = gates::index_read_conflict(l, tests::index_read_conflict(stamps, x));
+    let g = gates::index_read_conflict(l, conflicts::index_read_conflict(stamps, x));
     if g < CLEAN {
         return g;
     }
     let g = gates::has_row_lock_conflict(
         l,
-        tests::has_row_lock_conflict(heads, locked, owner, active, x),
+        conflicts::has_row_lock_conflict(heads, locked, owner, active, x),
     );
     if g < CLEAN {
         return g;
     }
-    let g = gates::has_serialization_conflict(l, tests::has_serialization_conflict(xmin, xmax, x));
+    let g = gates::has_serialization_conflict(l, conflicts::has_serialization_conflict(xmin, xmax, x));
     if g < CLEAN {
         return g;
     }
-    gates::has_write_base_conflict(l, tests::has_write_base_conflict(heads, x))
+    gates::has_write_base_conflict(l, conflicts::has_write_base_conflict(heads, x))
 }
 
 // Steps 15 to 22: the changes.

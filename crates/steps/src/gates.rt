@@ -7,7 +7,7 @@ ghost use Rattle.rules.specs.Faults.{F, B, P, X, Q};
 ghost use Rattle.steps.specs.Stops.{cleanGate, gateFrom, hits, letterIn, endsCallback};
 use super::struck::first_of_two;
 use super::struck::gate_if;
-use asks::faults::Letters;
+use commit_tests::faults::Letters;
 
 pub(crate) const CHANGES_FAILED: usize = 0;
 

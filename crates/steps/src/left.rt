@@ -2,10 +2,10 @@
 
 ghost use mathlib.Core.Path.{_≡_};
 ghost use Rattle.rules.specs.Transaction.{noWrites, noAccesses, emptied};
-use types::IndexRead;
-use types::ReadRecord;
-use types::Tx;
-use types::Write;
+use records::IndexRead;
+use records::ReadRecord;
+use records::Tx;
+use records::Write;
 
 // Writes alone emptied.
 pub fn no_writes(x: Tx) -> Tx

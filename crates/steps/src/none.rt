@@ -2,11 +2,11 @@
 
 ghost use mathlib.Core.Path.{_≡_};
 ghost use Rattle.rules.specs.Answer.{noRecord, noEvents};
-use types::Events;
-use types::Record;
-use types::Tx;
-use types::Txid;
-use types::Write;
+use records::Events;
+use records::Record;
+use records::Tx;
+use records::Txid;
+use records::Write;
 
 pub fn no_record() -> Record
     ensures { λ r. ⌜ r ≡ noRecord ⌝ }

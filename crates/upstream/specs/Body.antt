@@ -7,10 +7,10 @@ use lib.ListN.{length, getD}
 use lib.Dec.{ltb, leb}
 use Rattle.rules.specs.Types.{Store, Tx, Schedule, Events}
 use Rattle.rules.specs.Transaction.{finals}
-use Rattle.rules.specs.EventLaws.{safeRelease}
+use Rattle.run_laws.specs.EventLaws.{safeRelease}
 use Rattle.rules.specs.Commit.{runOf}
-use Rattle.rules.specs.Outcome.{aborting, rollingBack, worse, undoing, abortingLate}
-use Rattle.rules.specs.Gates.{Gate, hit, gates}
+use Rattle.run_laws.specs.Outcome.{aborting, rollingBack, worse, undoing, abortingLate}
+use Rattle.run_laws.specs.Gates.{Gate, hit, gates}
 use Rattle.upstream.specs.Primitives.{indexValidated, rowLockValidated, serialValidated, baseValidated, Call, here, ensureOpen, finalWriteIndices, indexChanges, indexLockKeys, acquireIndexLocks, acquirePartitionLocks, ensureUnloggedWriteAllowed, unboundIfOk, checkNotPoisoned, soundIfOk, abortForSerializationFailure, testing, prepareCommitRecord, runPrepare, poisonIndexes, poisonIf, abortPreparation, prepareIndexDestinations, runBeforePublish, resumeUnwind, rollbackPreparedCommit, removeIndexSources, publishPreparedWriteSet, publishWriteSet, recycleNonFinalWrites, flushLocalRecycleCaches, finishTransaction, publishIndexStamps, releasePartitionLocks, releaseIndexLocks}
 
 abbrev pub letGo : List Call

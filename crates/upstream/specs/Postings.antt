@@ -8,22 +8,22 @@ use native.Mathlib.Omega.{arith}
 use lib.ListN.{length, take, length-take}
 use lib.Seq.{take-length}
 use lib.Dec.{eqb}
-use Rattle.types.specs.Limits.{postingLimit}
+use Rattle.records.specs.Limits.{postingLimit}
 use Rattle.rules.specs.Types.{Store, Tx, Schedule}
-use Rattle.rules.specs.Bools.{by, clash, and-true, or-true, or-left, or-right}
+use Rattle.basic_laws.specs.Cases.{by, clash, and-true, or-true, or-left, or-right}
 use Rattle.rules.specs.Lists.{all, memb, into, without}
 use Rattle.rules.specs.Store.{postingsOf}
 use Rattle.rules.specs.Puts.{putInsert, putRemove, putPoison, apply, applyAll}
 use Rattle.rules.specs.Changes.{changes, destinations, sources, insertions, removals}
 use Rattle.rules.specs.Commit.{fails, rollback}
-use Rattle.laws.specs.Lists.{all-mem, mem-all}
-use Rattle.laws.specs.Beside.{beside}
-use Rattle.laws.specs.Abort.{rollback-flag}
-use Rattle.laws.specs.All.{all-append, all-take}
-use Rattle.laws.specs.Rising.{mem-into, mem-without, into-length, without-length}
-use Rattle.index.specs.Resting.{in-form}
-use Rattle.index.specs.Posted.{posted, posted-of, posted-own, intoAll, withoutAll, mem-intoAll, mem-withoutAll, intoAll-length, inserted, removed}
-use Rattle.index.specs.Undone.{Ready, take-map, room, new-destination, undone}
+use Rattle.basic_laws.specs.Members.{all-mem, mem-all}
+use Rattle.upstream.specs.Beside.{beside}
+use Rattle.upstream.specs.AbortThen.{rollback-flag}
+use Rattle.basic_laws.specs.AllOf.{all-append, all-take}
+use Rattle.basic_laws.specs.Rising.{mem-into, mem-without, into-length, without-length}
+use Rattle.posting_laws.specs.RestingPostings.{in-form}
+use Rattle.posting_laws.specs.Posted.{posted, posted-of, posted-own, intoAll, withoutAll, mem-intoAll, mem-withoutAll, intoAll-length, inserted, removed}
+use Rattle.posting_laws.specs.Undone.{Ready, take-map, room, new-destination, undone}
 
 -- transactional_insert and transactional_remove: one posting in or out, and nothing else
 pub insert-one : (c : ℕ) (T : Store) → apply (putInsert c) T ≡ posted (into c (postingsOf T)) T

@@ -5,7 +5,7 @@ use mathlib.Core.List.{List, [], _∷_, _++_}
 use Prim.Native.Nat.{ℕ}
 use lib.Dec.{eqb, ltb}
 use Rattle.rules.specs.Types.{Events}
-use Rattle.rules.specs.EventLaws.{validated, safeRelease}
+use Rattle.run_laws.specs.EventLaws.{validated, safeRelease}
 
 -- the events that a call can change; write_ahead, durably_bound and has_writes stay
 abbrev pub indexLocked : ℕ

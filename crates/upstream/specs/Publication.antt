@@ -9,9 +9,9 @@ use lib.ListN.{length, getD, set, take}
 use lib.Seq.{take-all}
 use lib.Dec.{eqb}
 use borrow.Author.Tests.{eqb-true}
-use Rattle.types.specs.Limits.{rows}
+use Rattle.records.specs.Limits.{rows}
 use Rattle.rules.specs.Types.{Store, Tx, Write}
-use Rattle.rules.specs.Bools.{by, and-true}
+use Rattle.basic_laws.specs.Cases.{by, and-true}
 use Rattle.rules.specs.Lists.{all, flat, memb}
 use Rattle.rules.specs.Store.{postingsOf}
 use Rattle.rules.specs.Transaction.{writesOf, finals}
@@ -20,20 +20,20 @@ use Rattle.rules.specs.Admitted.{finished, resting}
 use Rattle.rules.specs.Fit.{writeFit, fit}
 use Rattle.rules.specs.Puts.{Put, kStripe, kPartition, kXmax, kHead, kPoison, kDoom, putXmax, putNext, putHead, apply, applyAll}
 use Rattle.rules.specs.Changes.{publishOne, insertions, removals, publication}
-use Rattle.rules.specs.Only.{kept, is-not}
-use Rattle.rules.specs.Guards.{applyAll-append}
-use Rattle.laws.specs.Sized.{Sized}
-use Rattle.laws.specs.Chain.{IsChain}
-use Rattle.laws.specs.Check.{Tail}
-use Rattle.laws.specs.Finals.{finals-all}
-use Rattle.laws.specs.Parts.{write-parts, fit-parts}
-use Rattle.laws.specs.Published.{publish-only}
-use Rattle.laws.specs.All.{all-then}
-use Rattle.index.specs.Resting.{Exact}
-use Rattle.index.specs.Undone.{Ready}
-use Rattle.index.specs.Exact.{postings-kept, changed-exact}
-use Rattle.heart.specs.Resting.{rests}
-use Rattle.heart.specs.Start.{tails}
+use Rattle.run_laws.specs.OnlyKinds.{kept, is-not}
+use Rattle.run_laws.specs.GuardPuts.{applyAll-append}
+use Rattle.statements.specs.Sized.{Sized}
+use Rattle.basic_laws.specs.Chain.{IsChain}
+use Rattle.basic_laws.specs.Check.{Tail}
+use Rattle.run_laws.specs.FinalWrites.{finals-all}
+use Rattle.basic_laws.specs.TestParts.{write-parts, fit-parts}
+use Rattle.run_laws.specs.PublishedChains.{publish-only}
+use Rattle.basic_laws.specs.AllOf.{all-then}
+use Rattle.posting_laws.specs.RestingPostings.{Exact}
+use Rattle.posting_laws.specs.Undone.{Ready}
+use Rattle.posting_laws.specs.Exact.{postings-kept, changed-exact}
+use Rattle.admitted_laws.specs.Resting.{rests}
+use Rattle.recovery_laws.specs.Start.{tails}
 use Rattle.upstream.specs.Postings.{ds, ss, P, removes-all}
 
 -- 002's `publication_prefix`, word for word: phase 0 is nothing, 1 the base marked, 2 the new version linked, 3 the head moved

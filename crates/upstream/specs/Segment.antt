@@ -8,18 +8,19 @@ use lib.ListN.{take}
 use lib.Dec.{eqb}
 use borrow.Author.Tests.{eqb-true}
 use Rattle.rules.specs.Types.{Store, Tx, Schedule, Answer, Cut, Undone}
-use Rattle.rules.specs.Bools.{by, clash, or-true, or-left, or-right}
+use Rattle.basic_laws.specs.Cases.{by, clash, or-true, or-left, or-right}
 use Rattle.rules.specs.Numbers.{numberOf, fateIn}
 use Rattle.rules.specs.Puts.{Put, kPoison, kDoom, is, putRemove, putPoison, applyAll}
 use Rattle.rules.specs.Changes.{changes, destinations, insertions, release}
 use Rattle.rules.specs.Commit.{End, fails, count, rollback}
 use Rattle.rules.specs.Answer.{uncut, commit}
-use Rattle.rules.specs.Outcome.{guardsTaken, Outcome, done, stays, aborts, uninserted, uncalled, spoils, unstamped, outcome}
-use Rattle.rules.specs.Rows.{Admitted, whole, stay-not, abort-not, called-not, spoil-not}
-use Rattle.rules.specs.Aftermath.{row-13-17}
-use Rattle.laws.specs.Sized.{Sized}
-use Rattle.index.specs.Rolled.{row-10}
-use Rattle.index.specs.Healthy.{poisons, poisoned-after}
+use Rattle.run_laws.specs.Outcome.{guardsTaken, Outcome, done, stays, aborts, uninserted, uncalled, spoils, unstamped, outcome}
+use Rattle.statements.specs.Words.{Admitted}
+use Rattle.run_laws.specs.FirstRows.{whole, stay-not, abort-not, called-not, spoil-not}
+use Rattle.run_laws.specs.Aftermath.{row-13-17}
+use Rattle.statements.specs.Sized.{Sized}
+use Rattle.posting_laws.specs.Rolled.{row-10}
+use Rattle.posting_laws.specs.Healthy.{poisons, poisoned-after}
 
 -- a poison among puts
 poisons-mid : (ps qs : List Put) → poisons (ps ++ putPoison ∷ qs) ≡ true

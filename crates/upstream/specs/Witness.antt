@@ -4,7 +4,7 @@ use mathlib.Core.Bool.{false}
 use mathlib.Core.List.{List, [], _∷_}
 use Prim.Native.Nat.{ℕ}
 use lib.ListN.{getD}
-use Rattle.types.specs.Zero.{fresh, noFaults}
+use Rattle.records.specs.Zero.{fresh, noFaults}
 use Rattle.rules.specs.Types.{Store, Tx, Value, Absent, Key, Written, Uncut}
 use Rattle.rules.specs.Store.{posting, postingsOf, valueAt}
 use Rattle.rules.specs.Numbers.{numberOf}
@@ -13,7 +13,7 @@ use Rattle.rules.specs.Changes.{changes}
 use Rattle.rules.specs.Answer.{commit}
 use Rattle.rules.specs.Computing.{computing}
 use Rattle.rules.specs.Tests.{writeBaseConflict}
-use Rattle.index.specs.Undone.{Ready}
+use Rattle.posting_laws.specs.Undone.{Ready}
 use Rattle.demands.specs.Exhibits.{Meets, meets}
 
 -- begin, and row 3 written

@@ -1,7 +1,7 @@
 -- `commit` meets its contract: refused before the steps, or what the steps answer.
 use mathlib.Core.Path.{sym, _∙_}
 use borrow.Author.Tests.{not-true, not-false}
-use Rattle.commit.specs.Tries.{tried-fit, tried-done, tried-refused}
+use Rattle.commit.specs.Tried.{tried-fit, tried-done, tried-refused}
 use borrow.Author.Needs.{needs}
 use Rattle.commit.proofs.commit.Statement.{statement}
 use Rattle.commit.proofs.commit.Tie as tie

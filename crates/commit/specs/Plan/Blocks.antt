@@ -7,7 +7,7 @@ use native.Mathlib.Nat.{not-suc-le-zero, le-of-suc-le-suc}
 use native.Mathlib.Omega.{arith}
 use lib.ListN.{length, take}
 use lib.Seq.{take-all}
-use Rattle.types.specs.Limits.{stripes, partitions, places, writeLimit}
+use Rattle.records.specs.Limits.{stripes, partitions, places, writeLimit}
 use Rattle.rules.specs.Lists.{all, pad}
 use Rattle.rules.specs.Types.{Store, Tx, Write}
 use Rattle.rules.specs.Transaction.{finals}
@@ -18,9 +18,9 @@ use Rattle.rules.specs.Changes.{changes, destinations, sources, indexGuards, pa
 use Rattle.journal.specs.Journal.{placeBase, narrow, Pushed}
 use Rattle.journal.specs.Holds.{kept-wide}
 use Rattle.journal.specs.Adds.{Adds, adds-push, adds-then}
-use Rattle.view.specs.Pad.{take-clip}
+use Rattle.fields.specs.Pad.{take-clip}
 use Rattle.commit.specs.declared.plan.moves.Codes.{Codes}
-use Rattle.view.specs.Marks.{markedFrom}
+use Rattle.fields.specs.Marks.{markedFrom}
 use Rattle.commit.specs.Plan.Pushes.{marked, listed, listedBack}
 use Rattle.commit.specs.Plan.Plain.{plain, finals-plain}
 use Rattle.commit.specs.Plan.Publish.{publishing, publishing-whole}

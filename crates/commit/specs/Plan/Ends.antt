@@ -8,14 +8,14 @@ use lib.ListN.{length, getD, take, length-map, length-reverse, length-take}
 use lib.Seq.{take-all}
 use lib.Dec.{eqb}
 use borrow.Author.Tests.{eqb-false, eq-eqb, ne-eqb}
-use Rattle.types.specs.Limits.{writeLimit}
-use Rattle.rules.specs.Bools.{by}
+use Rattle.records.specs.Limits.{writeLimit}
+use Rattle.basic_laws.specs.Cases.{by}
 use Rattle.rules.specs.Types.{Store, Tx, Schedule}
 use Rattle.rules.specs.Fit.{fit}
 use Rattle.rules.specs.Puts.{Put, putRemove, putDrop, abortPuts}
 use Rattle.rules.specs.Changes.{changes, destinations}
 use Rattle.rules.specs.Commit.{fails, count, poison, abortOrPoison, rollback}
-use Rattle.rules.specs.Outcome.{worse, undoing}
+use Rattle.run_laws.specs.Outcome.{worse, undoing}
 use Rattle.journal.specs.Journal.{putLimit}
 use Rattle.journal.specs.Adds.{Adds, adds-then}
 use Rattle.commit.specs.declared.plan.run.Plan.{Plan}

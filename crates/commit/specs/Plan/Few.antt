@@ -7,18 +7,18 @@ use native.Mathlib.Omega.{arith}
 use lib.ListN.{length, length-append, length-map, length-take}
 use lib.Dec.{eqb}
 use borrow.Author.Tests.{leb-true}
-use Rattle.types.specs.Limits.{stripes, partitions, places, writeLimit}
+use Rattle.records.specs.Limits.{stripes, partitions, places, writeLimit}
 use Rattle.rules.specs.Lists.{flat}
-use Rattle.rules.specs.Bools.{by, every-cons}
+use Rattle.basic_laws.specs.Cases.{by, every-cons}
 use Rattle.rules.specs.Types.{Store, Tx, Write}
 use Rattle.rules.specs.Transaction.{writesOf, finals}
 use Rattle.rules.specs.Chains.{walk}
 use Rattle.rules.specs.Fit.{countsFit, fit}
 use Rattle.rules.specs.Puts.{putFree, putDrop, ownSlots, abortPuts}
 use Rattle.rules.specs.Changes.{Change, changes, destinations, sources, changedStripes, guardedStripes, guardedPartitions, indexGuards, partitionGuards, release, publishOne, insertions, removals, publication, recycled, recycling, stamping}
-use Rattle.laws.specs.Finals.{finals-few}
-use Rattle.laws.specs.Parts.{fit-parts}
-use Rattle.view.specs.Marks.{markedFrom, marked-few}
+use Rattle.run_laws.specs.FinalWrites.{finals-few}
+use Rattle.basic_laws.specs.TestParts.{fit-parts}
+use Rattle.fields.specs.Marks.{markedFrom, marked-few}
 use Rattle.commit.specs.Plan.Moves.{changedMarks, destinations-few, sources-few, changes-few}
 use Rattle.commit.specs.Plan.Guards.{guardedMarks, partitionMarks, fit-reads, changed-marked, guarded-marked, partitions-marked, changed-long, guarded-long, partitions-long}
 use Rattle.commit.specs.Plan.Own.{ownMarks, own-marked, own-long, recycledMarks, recycled-marked, recycled-long}

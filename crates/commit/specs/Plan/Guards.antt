@@ -7,17 +7,17 @@ use native.Mathlib.Omega.{arith}
 use lib.ListN.{length, replicate, length-replicate}
 use lib.Dec.{eqb, ltb}
 use borrow.Author.Tests.{lt-ltb}
-use Rattle.types.specs.Limits.{stripes, partitions}
+use Rattle.records.specs.Limits.{stripes, partitions}
 use Rattle.rules.specs.Lists.{all, flat, inOrder}
-use Rattle.rules.specs.Bools.{and-true, and-both}
+use Rattle.basic_laws.specs.Cases.{and-true, and-both}
 use Rattle.rules.specs.Types.{Store, Tx, Write, ReadRecord, IndexRead, Value, Absent, Key}
 use Rattle.rules.specs.Store.{stripeOf, partitionOf}
 use Rattle.rules.specs.Transaction.{writesOf, readsOf, indexReadsOf}
 use Rattle.rules.specs.Fit.{fit, stripesApart}
 use Rattle.rules.specs.Changes.{Change, stripesIn, changedStripes, guardedStripes, guardedPartitions}
-use Rattle.laws.specs.Parts.{fit-parts}
-use Rattle.laws.specs.All.{all-append}
-use Rattle.view.specs.Marks.{markAll, markedFrom, mark-length, mark-append, marks-in-order, order-marks, order-all}
+use Rattle.basic_laws.specs.TestParts.{fit-parts}
+use Rattle.basic_laws.specs.AllOf.{all-append}
+use Rattle.fields.specs.Marks.{markAll, markedFrom, mark-length, mark-append, marks-in-order, order-marks, order-all}
 use Rattle.commit.specs.Plan.Moves.{noStripes, stripesOf, changedMarks}
 
 -- the place of a guard

@@ -6,7 +6,7 @@ use Prim.Native.Nat.{ℕ, _≤_}
 use lib.ListN.{getD}
 use Rattle.rules.specs.Types.{Store, Tx, Schedule}
 use Rattle.rules.specs.Commit.{runOf}
-use Rattle.rules.specs.Gates.{gates, clean}
+use Rattle.run_laws.specs.Gates.{gates, clean}
 use Rattle.journal.specs.Journal.{Holds}
 use Rattle.journal.specs.Adds.{Adds, adds-all}
 use Rattle.commit.specs.declared.plan.run.Plan.{Plan}

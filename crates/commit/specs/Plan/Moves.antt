@@ -7,18 +7,18 @@ use native.Mathlib.Numerals.{add-one}
 use native.Mathlib.Omega.{arith}
 use lib.ListN.{length, getD, set, take, replicate, length-append, length-take, length-map, List·getD-map}
 use lib.Seq.{take-suc, take-all, getD-take}
-use Rattle.types.specs.Limits.{rows, stripes, writeLimit}
-use Rattle.types.specs.Zero.{noWrite}
+use Rattle.records.specs.Limits.{rows, stripes, writeLimit}
+use Rattle.records.specs.Zero.{noWrite}
 use Rattle.rules.specs.Lists.{those, flat, pad}
-use Rattle.rules.specs.Bools.{by}
+use Rattle.basic_laws.specs.Cases.{by}
 use Rattle.rules.specs.Types.{Write, Value, Absent, Key}
 use Rattle.rules.specs.Store.{valueAt, sameValue}
 use Rattle.rules.specs.Changes.{Change, changeOf, indexChanges, postingIn, destinations, sources, stripesIn}
-use Rattle.view.specs.Pad.{pad-snoc}
+use Rattle.fields.specs.Pad.{pad-snoc}
 use Rattle.commit.specs.declared.plan.moves.Codes.{Codes}
 use Rattle.commit.specs.declared.plan.moves.Moves.{Moves}
-use Rattle.view.specs.Few.{those-few}
-use Rattle.view.specs.Marks.{markAll, mark-append}
+use Rattle.fields.specs.Few.{those-few}
+use Rattle.fields.specs.Marks.{markAll, mark-append}
 use Rattle.commit.specs.Plan.Plain.{low}
 
 -- postings laid out in an array, with their number

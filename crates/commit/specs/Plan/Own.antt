@@ -10,18 +10,18 @@ use lib.ListN.{length, getD, set, drop, replicate, length-set, length-replicate}
 use lib.Seq.{set-out}
 use lib.Dec.{eqb, ltb, leb}
 use borrow.Author.Tests.{eq-eqb, ne-eqb, lt-ltb, le-leb, leb-true}
-use Rattle.types.specs.Limits.{places}
+use Rattle.records.specs.Limits.{places}
 use Rattle.rules.specs.Lists.{all, those, nonzeroFrom, memb, rising, into, inOrder}
-use Rattle.rules.specs.Bools.{by, and-true, and-both}
+use Rattle.basic_laws.specs.Cases.{by, and-true, and-both}
 use Rattle.rules.specs.Types.{Store, Tx, Write}
 use Rattle.rules.specs.Transaction.{finals}
 use Rattle.rules.specs.Chains.{walk}
 use Rattle.rules.specs.Puts.{ownSlots}
 use Rattle.rules.specs.Changes.{recycled}
-use Rattle.laws.specs.Rising.{rising-less}
-use Rattle.view.specs.Lent.{atPlaces, array-cons, array-end}
-use Rattle.sight.specs.Slots.{ownSlot, own-slots}
-use Rattle.view.specs.Marks.{markAll, markedFrom, mark-length, marks-in-order}
+use Rattle.basic_laws.specs.Rising.{rising-less}
+use Rattle.fields.specs.Lent.{atPlaces, array-cons, array-end}
+use Rattle.visibility.specs.Slots.{ownSlot, own-slots}
+use Rattle.fields.specs.Marks.{markAll, markedFrom, mark-length, marks-in-order}
 
 -- no slot is marked; shut, since a goal would show all its flags
 unfoldable pub noSlots : List Bool

@@ -11,8 +11,8 @@ use Rattle.rules.specs.Types.{Store, Tx, Schedule}
 use Rattle.rules.specs.Puts.{Put, putDrop, putPoison, putDoom}
 use Rattle.rules.specs.Changes.{indexGuards, partitionGuards, release, insertions, removals, publication, recycling, stamping}
 use Rattle.rules.specs.Commit.{count, finish}
-use Rattle.rules.specs.Outcome.{aborting, rollingBack, worse, undoing, abortingLate}
-use Rattle.rules.specs.Gates.{gates, clean}
+use Rattle.run_laws.specs.Outcome.{aborting, rollingBack, worse, undoing, abortingLate}
+use Rattle.run_laws.specs.Gates.{gates, clean}
 
 -- the gate after the last: the run that passes them all
 abbrev pub cleanGate : ℕ

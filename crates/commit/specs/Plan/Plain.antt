@@ -6,15 +6,15 @@ use Prim.Native.Nat.{_%_, _<_, _≤_}
 use native.Mathlib.Nat.{mod-eq-of-lt}
 use lib.Dec.{ltb, leb}
 use borrow.Author.Tests.{ltb-true, leb-true}
-use Rattle.types.specs.Limits.{rows, slots}
+use Rattle.records.specs.Limits.{rows, slots}
 use Rattle.rules.specs.Lists.{all}
-use Rattle.rules.specs.Bools.{and-true, and-both}
+use Rattle.basic_laws.specs.Cases.{and-true, and-both}
 use Rattle.rules.specs.Types.{Store, Tx, Write}
 use Rattle.rules.specs.Transaction.{writesOf, finals}
 use Rattle.rules.specs.Chains.{walk}
 use Rattle.rules.specs.Fit.{fit}
-use Rattle.laws.specs.Parts.{write-parts, fit-parts}
-use Rattle.laws.specs.Finals.{finals-all}
+use Rattle.basic_laws.specs.TestParts.{write-parts, fit-parts}
+use Rattle.run_laws.specs.FinalWrites.{finals-all}
 
 -- a write's pointers and row are within their limits
 abbrev pub plain : Write → Bool

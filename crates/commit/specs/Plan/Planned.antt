@@ -8,8 +8,8 @@ use native.Mathlib.Omega.{arith}
 use lib.ListN.{length, take}
 use lib.Seq.{take-all}
 use lib.Dec.{eqb, ltb}
-use Rattle.types.specs.Limits.{places, writeLimit}
-use Rattle.types.specs.Zero.{noWrite}
+use Rattle.records.specs.Limits.{places, writeLimit}
+use Rattle.records.specs.Zero.{noWrite}
 use Rattle.rules.specs.Lists.{pad}
 use Rattle.rules.specs.Types.{Store, Tx, Write, Schedule}
 use Rattle.rules.specs.Transaction.{indexReadsOf, finals}
@@ -18,14 +18,14 @@ use Rattle.rules.specs.Fit.{fit}
 use Rattle.rules.specs.Puts.{Put, putDrop}
 use Rattle.rules.specs.Changes.{indexChanges, changes, destinations, sources, indexGuards, partitionGuards, insertions, removals, publication, recycling, stamping}
 use Rattle.rules.specs.Commit.{fails, count, rollback}
-use Rattle.rules.specs.Outcome.{worse}
+use Rattle.run_laws.specs.Outcome.{worse}
 use Rattle.journal.specs.Journal.{putLimit}
 use Rattle.journal.specs.Adds.{Adds, adds-then}
-use Rattle.view.specs.Pad.{take-pad}
+use Rattle.fields.specs.Pad.{take-pad}
 use Rattle.commit.specs.declared.plan.moves.Moves.{Moves}
 use Rattle.commit.specs.declared.plan.run.Plan.{Plan}
 use Rattle.commit.specs.declared.plan.run.Struck.{Struck}
-use Rattle.view.specs.Marks.{markAll}
+use Rattle.fields.specs.Marks.{markAll}
 use Rattle.commit.specs.Plan.Plain.{low, low-same, finals-plain}
 use Rattle.commit.specs.Plan.Moves.{codesOf, changedMarks, movesOf}
 use Rattle.commit.specs.Plan.Guards.{stripeRead, guardedMarks, partitionMarks}

@@ -9,14 +9,14 @@ use lib.ListN.{length, getD, drop, take, drop-of-length-le, length-take}
 use lib.Seq.{drop-cons, getD-take}
 use lib.Dec.{eqb}
 use borrow.Author.Tests.{eq-eqb, ne-eqb}
-use Rattle.types.specs.Zero.{noWrite}
+use Rattle.records.specs.Zero.{noWrite}
 use Rattle.rules.specs.Lists.{all, flat}
-use Rattle.rules.specs.Bools.{by}
+use Rattle.basic_laws.specs.Cases.{by}
 use Rattle.rules.specs.Types.{Tx, Write}
 use Rattle.rules.specs.Transaction.{finals}
 use Rattle.rules.specs.Puts.{Put, putXmax, putHead}
 use Rattle.rules.specs.Changes.{publishOne, publication}
-use Rattle.laws.specs.Lists.{all-at}
+use Rattle.basic_laws.specs.Members.{all-at}
 use Rattle.journal.specs.Journal.{Kept}
 use Rattle.journal.specs.Holds.{kept-wide, kept-small}
 use Rattle.journal.specs.Adds.{Adds}

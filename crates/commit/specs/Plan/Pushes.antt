@@ -11,8 +11,8 @@ use Rattle.rules.specs.Puts.{Put, put, kLock}
 use Rattle.journal.specs.Journal.{placeBase, narrow, Pushed}
 use Rattle.journal.specs.Holds.{kept-wide}
 use Rattle.journal.specs.Pushing.{Pushing, pushing-next}
-use Rattle.view.specs.Pad.{take-clip}
-use Rattle.view.specs.Marks.{markedFrom}
+use Rattle.fields.specs.Pad.{take-clip}
+use Rattle.fields.specs.Marks.{markedFrom}
 
 -- the puts of one kind and value at the marked places, the first `limit` of them; from place i on
 unfoldable pub marked : ℕ → ℕ → ℕ → ℕ → List Bool → List Put

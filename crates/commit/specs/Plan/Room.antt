@@ -5,14 +5,14 @@ use mathlib.Core.List.{List, [], _∷_, _++_, map, reverse}
 use Prim.Native.Nat.{ℕ, suc, _+_, _≤_}
 use native.Mathlib.Omega.{arith}
 use lib.ListN.{length, take, length-append, length-map, length-take, length-reverse}
-use Rattle.types.specs.Limits.{stripes, partitions, places, writeLimit}
-use Rattle.rules.specs.Bools.{by}
+use Rattle.records.specs.Limits.{stripes, partitions, places, writeLimit}
+use Rattle.basic_laws.specs.Cases.{by}
 use Rattle.rules.specs.Types.{Store, Tx, Schedule, Fate, Refusal}
 use Rattle.rules.specs.Fit.{fit}
 use Rattle.rules.specs.Puts.{Put, putRemove, putDrop, putPoison, putDoom}
 use Rattle.rules.specs.Changes.{changes, destinations, indexGuards, partitionGuards, release, insertions, removals, publication, recycling, stamping}
 use Rattle.rules.specs.Commit.{End, runOf, fails, count, poison, abortOrPoison, rollback, finish}
-use Rattle.rules.specs.Outcome.{Taken, neither, index, both, Spoil, unremoved, unpublished, unrecycled, unfinished, guardsTaken, afterStamp, worse, Outcome, done, stays, aborts, uninserted, uncalled, spoils, unstamped, outcome}
+use Rattle.run_laws.specs.Outcome.{Taken, neither, index, both, Spoil, unremoved, unpublished, unrecycled, unfinished, guardsTaken, afterStamp, worse, Outcome, done, stays, aborts, uninserted, uncalled, spoils, unstamped, outcome}
 use Rattle.journal.specs.Journal.{putLimit}
 use Rattle.commit.specs.Plan.Few.{index-guards-few, partition-guards-few, release-few, destinations-fit, insertions-few, removals-few, publication-few, recycling-few, stamping-few, abort-few}
 

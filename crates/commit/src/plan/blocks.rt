@@ -6,7 +6,7 @@ ghost use mathlib.Core.Bool.{true};
 ghost use mathlib.Core.List.{[], _∷_, map, reverse};
 ghost use Prim.Native.Nat.{_≤_};
 ghost use lib.ListN.{length, take};
-ghost use Rattle.types.specs.Limits.{places};
+ghost use Rattle.records.specs.Limits.{places};
 ghost use Rattle.rules.specs.Types.{Store, Tx};
 ghost use Rattle.rules.specs.Transaction.{finals};
 ghost use Rattle.rules.specs.Chains.{walk};
@@ -22,12 +22,12 @@ use super::publish;
 use super::pushes;
 use journal::Journal;
 use journal::Kind;
-use types::RowId;
-use types::SlotPtr;
-use types::Store;
-use types::Tx;
-use types::Write;
-use view::lent::clipped;
+use records::RowId;
+use records::SlotPtr;
+use records::Store;
+use records::Tx;
+use records::Write;
+use fields::lent::clipped;
 
 // The stripe guards set to t: the txid to take them, 0 to let them go.
 pub fn push_index_guards(

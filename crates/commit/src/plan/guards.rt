@@ -3,12 +3,12 @@
 ghost use mathlib.Core.Path.{_≡_};
 ghost use mathlib.Core.List.{map};
 ghost use Rattle.rules.specs.Transaction.{readsOf, indexReadsOf};
-ghost use Rattle.view.specs.Marks.{markAll};
+ghost use Rattle.fields.specs.Marks.{markAll};
 ghost use Rattle.commit.specs.Plan.Guards.{stripeRead, partitionRead, writtenMarks, partitionMarks};
-use types::RowId;
-use types::Store;
-use types::Tx;
-use view::lent::clipped;
+use records::RowId;
+use records::Store;
+use records::Tx;
+use fields::lent::clipped;
 
 // The stripes of index reads, besides those that are marked; a stripe too high is not marked.
 pub fn guarded_stripes(x: Tx, changed: [bool; Store::STRIPES]) -> [bool; Store::STRIPES]

@@ -4,21 +4,21 @@ ghost use mathlib.Core.Path.{_≡_};
 ghost use mathlib.Core.List.{List, [], _∷_, _++_, map};
 ghost use Prim.Native.Nat.{ℕ, _<_, _%_};
 ghost use lib.ListN.{length, take};
-ghost use Rattle.types.specs.Limits.{rows, writeLimit};
+ghost use Rattle.records.specs.Limits.{rows, writeLimit};
 ghost use Rattle.rules.specs.Store.{sameValue};
 ghost use Rattle.rules.specs.Changes.{Change, indexChanges, postingIn, stripesIn};
-ghost use Rattle.view.specs.Lent.{atPlaces, flagsAtPlaces};
-ghost use Rattle.view.specs.Marks.{markAll};
+ghost use Rattle.fields.specs.Lent.{atPlaces, flagsAtPlaces};
+ghost use Rattle.fields.specs.Marks.{markAll};
 ghost use Rattle.commit.specs.Plan.Plain.{low};
 ghost use Rattle.commit.specs.Plan.Moves.{codesOf, movesOf, change};
-use sight::slots;
-use types::RowId;
-use types::SlotPtr;
-use types::Store;
-use types::Tx;
-use types::Value;
-use types::Write;
-use view::lent::clipped;
+use visibility::slots;
+use records::RowId;
+use records::SlotPtr;
+use records::Store;
+use records::Tx;
+use records::Value;
+use records::Write;
+use fields::lent::clipped;
 
 // Postings, at most one for a write: the first `count` places.
 pub struct Codes {

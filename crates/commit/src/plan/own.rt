@@ -3,14 +3,14 @@
 ghost use mathlib.Core.Path.{_≡_};
 ghost use mathlib.Core.List.{map};
 ghost use lib.ListN.{take};
-ghost use Rattle.view.specs.Lent.{atPlaces};
+ghost use Rattle.fields.specs.Lent.{atPlaces};
 ghost use Rattle.commit.specs.Plan.Own.{ownMarks, unmarkAll, newOf};
-use sight::slots;
-use types::SlotPtr;
-use types::Tx;
-use types::Txid;
-use types::Write;
-use view::lent::clipped;
+use visibility::slots;
+use records::SlotPtr;
+use records::Tx;
+use records::Txid;
+use records::Write;
+use fields::lent::clipped;
 
 // The used slots of t off every chain, by the marks of the walk.
 pub fn own_marks<'a>(

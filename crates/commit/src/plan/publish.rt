@@ -10,9 +10,9 @@ ghost use Rattle.commit.specs.Plan.Plain.{plain};
 ghost use Rattle.commit.specs.Plan.Publish.{ofWrite, sizeOf, publishing};
 use journal::Journal;
 use journal::Kind;
-use types::Tx;
-use types::Write;
-use view::lent::clipped;
+use records::Tx;
+use records::Write;
+use fields::lent::clipped;
 
 fn less(a: usize, b: usize) -> usize
     ensures { λ r. ⌜ r ≡ a - b ⌝ }

@@ -9,7 +9,7 @@ ghost use Rattle.journal.specs.Journal.{placeBase, narrow};
 ghost use Rattle.journal.specs.Adds.{Adds};
 ghost use Rattle.commit.specs.Plan.Pushes.{marked, listed, listedBack};
 use journal::Journal;
-use view::lent::clipped;
+use fields::lent::clipped;
 
 // A put of one kind and value for each marked place, rising, and no more than `limit`: guards, stamps, frees.
 pub(crate) fn push_marked(

@@ -5,7 +5,7 @@ ghost use mathlib.Core.Bool.{Bool, true, false, _||_};
 ghost use mathlib.Core.List.{[], _∷_};
 ghost use Prim.Native.Nat.{_≤_};
 ghost use lib.ListN.{length, getD, take};
-ghost use Rattle.types.specs.Limits.{places};
+ghost use Rattle.records.specs.Limits.{places};
 ghost use Rattle.rules.specs.Types.{Store, Tx, Schedule};
 ghost use Rattle.rules.specs.Chains.{walk};
 ghost use Rattle.rules.specs.Fit.{fit};
@@ -13,7 +13,7 @@ ghost use Rattle.rules.specs.Puts.{putDrop};
 ghost use Rattle.rules.specs.Changes.{changes, destinations, indexGuards, partitionGuards};
 ghost use Rattle.rules.specs.Commit.{fails, poison, abortOrPoison, rollback};
 ghost use Rattle.journal.specs.Adds.{Adds};
-ghost use Rattle.view.specs.Lent.{atPlaces, flagsAtPlaces};
+ghost use Rattle.fields.specs.Lent.{atPlaces, flagsAtPlaces};
 ghost use Rattle.commit.specs.Plan.Moves.{codesOf};
 ghost use Rattle.commit.specs.Plan.Guards.{guardedMarks, partitionMarks};
 ghost use Rattle.commit.specs.Plan.Own.{ownMarks};
@@ -25,11 +25,11 @@ use super::moves;
 use super::moves::Codes;
 use super::own;
 use journal::Journal;
-use types::RowId;
-use types::SlotPtr;
-use types::Store;
-use types::Tx;
-use types::Write;
+use records::RowId;
+use records::SlotPtr;
+use records::Store;
+use records::Tx;
+use records::Write;
 
 // What a commit stores if nothing ends it, and what it frees if it aborts.
 pub struct Plan {

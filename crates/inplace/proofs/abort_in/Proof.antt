@@ -1,7 +1,7 @@
 -- `abort_in` is `abort` in place.
 use mathlib.Core.List.{[], _∷_}
 use Rattle.rules.specs.Calls.{abort}
-use Rattle.inplace.specs.Told as specs
+use Rattle.inplace.specs.Answered as specs
 use Rattle.inplace.proofs.Plain.{store, tx, reply, told}
 use Rattle.inplace.proofs.Lent.{in-place}
 use Rattle.calls.proofs.abort.abort.Symbol as core

@@ -1,7 +1,7 @@
 -- `begin_in` is `begin` in place.
 use mathlib.Core.List.{[]}
 use Rattle.rules.specs.Calls.{begin}
-use Rattle.inplace.specs.Told as specs
+use Rattle.inplace.specs.Answered as specs
 use Rattle.inplace.proofs.Plain.{store, reply, told}
 use Rattle.inplace.proofs.Lent.{in-place}
 use Rattle.calls.proofs.begin.begin.Symbol as core

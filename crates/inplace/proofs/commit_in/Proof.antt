@@ -1,7 +1,7 @@
 -- `commit_in` is `commit` in place.
 use mathlib.Core.List.{[], _∷_}
 use Rattle.rules.specs.Answer.{commit}
-use Rattle.inplace.specs.Told as specs
+use Rattle.inplace.specs.Answered as specs
 use Rattle.inplace.proofs.Plain.{store, tx, flag, schedule, cut, answer, committed}
 use Rattle.inplace.proofs.Lent.{in-place}
 use Rattle.commit.proofs.commit.Symbol as core

@@ -1,7 +1,7 @@
 -- `row_lock_in` is `row_lock` in place.
 use mathlib.Core.List.{[], _∷_}
 use Rattle.rules.specs.Calls.{rowLock}
-use Rattle.inplace.specs.Told as specs
+use Rattle.inplace.specs.Answered as specs
 use Rattle.inplace.proofs.Plain.{store, tx, row, reply, told}
 use Rattle.inplace.proofs.Lent.{in-place}
 use Rattle.calls.proofs.lock.row_lock.Symbol as core

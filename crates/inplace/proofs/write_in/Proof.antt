@@ -1,7 +1,7 @@
 -- `write_in` is `write` in place.
 use mathlib.Core.List.{[], _∷_}
 use Rattle.rules.specs.Calls.{write}
-use Rattle.inplace.specs.Told as specs
+use Rattle.inplace.specs.Answered as specs
 use Rattle.inplace.proofs.Plain.{store, tx, row, value, written, wrote}
 use Rattle.inplace.proofs.Lent.{in-place}
 use Rattle.calls.proofs.write.write.Symbol as core

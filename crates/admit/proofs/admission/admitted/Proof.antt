@@ -1,10 +1,10 @@
 -- `admitted` meets its contract: lent whole, the store is judged as it stands, and the transaction under the marks of its walk.
 use mathlib.Core.Path.{_∙_, ap}
-use Rattle.types.specs.Limits.{activeLimit}
+use Rattle.records.specs.Limits.{activeLimit}
 use Rattle.rules.specs.Lists.{memb}
 use Rattle.rules.specs.Store.{activeTxids}
-use Rattle.view.specs.Lent.{array-same}
-use Rattle.view.proofs.Lengths.{sized}
+use Rattle.fields.specs.Lent.{array-same}
+use Rattle.fields.proofs.Lengths.{sized}
 use Rattle.fitting.specs.Fits.{fit-by}
 use Rattle.admit.specs.Admission.{admitted-by}
 use borrow.Author.Needs.{needs}

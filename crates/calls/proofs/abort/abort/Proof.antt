@@ -4,10 +4,10 @@ use borrow.Author.Tests.{not-true, not-false}
 use native.Mathlib.Omega.{arith}
 use Rattle.journal.specs.Adds.{adds-all}
 use Rattle.journal.specs.Applied.{apply-held}
-use Rattle.types.specs.Limits.{places}
-use Rattle.view.proofs.Lengths.{sized}
-use Rattle.view.specs.Lent.{array-length, atRows, atPlaces}
-use Rattle.calls.specs.Abort.{abort-few, abort-refused, abort-done}
+use Rattle.records.specs.Limits.{places}
+use Rattle.fields.proofs.Lengths.{sized}
+use Rattle.fields.specs.Lent.{array-length, atRows, atPlaces}
+use Rattle.calls.specs.AbortAnswer.{abort-few, abort-refused, abort-done}
 use borrow.Author.Needs.{needs}
 use Rattle.calls.proofs.abort.abort.Statement.{statement}
 use Rattle.calls.proofs.abort.abort.Tie as tie

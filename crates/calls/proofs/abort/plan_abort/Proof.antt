@@ -4,7 +4,7 @@ use lib.Dec.{lit≤, lit<}
 use Rattle.rules.specs.Chains.{Walk}
 use Rattle.journal.specs.Holds.{kept-wide}
 use Rattle.journal.specs.Adds.{adds-push, adds-then}
-use Rattle.calls.specs.Abort.{frees-then}
+use Rattle.calls.specs.AbortAnswer.{frees-then}
 use borrow.Author.Needs.{needs}
 use Rattle.calls.proofs.abort.plan_abort.Statement.{statement}
 use Rattle.calls.proofs.abort.plan_abort.Tie as tie

@@ -1,10 +1,10 @@
 -- `push_own` meets its contract: what is pushed so far and what is left make the block.
 use Prim.Native.Nat.{_≤_, _-_}
 use native.Mathlib.Omega.{arith}
-use Rattle.types.specs.Limits.{places}
-use Rattle.view.specs.Lent.{atPlaces}
+use Rattle.records.specs.Limits.{places}
+use Rattle.fields.specs.Lent.{atPlaces}
 use Rattle.journal.specs.Pushing.{Pushing, pushing-start, pushing-end}
-use Rattle.calls.specs.Abort.{ownFrees, frees-end, push-own, pass-other, pass-unused}
+use Rattle.calls.specs.AbortAnswer.{ownFrees, frees-end, push-own, pass-other, pass-unused}
 use borrow.Author.Needs.{needs}
 use Rattle.calls.proofs.abort.push_own.Statement.{statement}
 use Rattle.calls.proofs.abort.push_own.Tie as tie

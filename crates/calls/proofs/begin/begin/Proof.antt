@@ -4,8 +4,8 @@ use borrow.Author.Tests.{not-true, not-false}
 use lib.Dec.{lit≤}
 use Rattle.journal.specs.Adds.{adds-all}
 use Rattle.journal.specs.Applied.{apply-held}
-use Rattle.view.proofs.Lengths.{sized}
-use Rattle.calls.specs.Begin.{begin-why, begin-clock, begin-refused, begin-done}
+use Rattle.fields.proofs.Lengths.{sized}
+use Rattle.calls.specs.BeginAnswer.{begin-why, begin-clock, begin-refused, begin-done}
 use borrow.Author.Needs.{needs}
 use Rattle.calls.proofs.begin.begin.Statement.{statement}
 use Rattle.calls.proofs.begin.begin.Tie as tie

@@ -1,7 +1,7 @@
 -- `begin_refusal` meets its contract.
 use borrow.Author.Tests.{le-leb, lt-leb}
-use Rattle.types.specs.Limits.{activeLimit, clockEnd}
-use Rattle.calls.specs.Begin.{beginTries}
+use Rattle.records.specs.Limits.{activeLimit, clockEnd}
+use Rattle.calls.specs.BeginAnswer.{beginTries}
 use borrow.Author.Needs.{needs}
 use Rattle.calls.proofs.begin.begin_refusal.Statement.{statement}
 use Rattle.calls.proofs.begin.begin_refusal.Tie as tie

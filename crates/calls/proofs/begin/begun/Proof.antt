@@ -1,5 +1,5 @@
 -- `begun` meets its contract.
-use Rattle.calls.specs.Begin.{begun-is}
+use Rattle.calls.specs.BeginAnswer.{begun-is}
 use borrow.Author.Needs.{needs}
 use Rattle.calls.proofs.begin.begun.Statement.{statement}
 use Rattle.calls.proofs.begin.begun.Tie as tie

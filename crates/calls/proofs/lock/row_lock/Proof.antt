@@ -5,8 +5,8 @@ use native.Mathlib.Omega.{arith}
 use lib.Dec.{lit≤}
 use Rattle.journal.specs.Adds.{adds-all}
 use Rattle.journal.specs.Applied.{apply-held}
-use Rattle.view.proofs.Lengths.{sized}
-use Rattle.calls.specs.Lock.{lock-refused, lock-placed, lock-done}
+use Rattle.fields.proofs.Lengths.{sized}
+use Rattle.calls.specs.LockAnswer.{lock-refused, lock-placed, lock-done}
 use borrow.Author.Needs.{needs}
 use Rattle.calls.proofs.lock.row_lock.Statement.{statement}
 use Rattle.calls.proofs.lock.row_lock.Tie as tie

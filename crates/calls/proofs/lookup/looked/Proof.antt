@@ -1,5 +1,5 @@
 -- `looked` meets its contract.
-use Rattle.calls.specs.Lookup.{looked-is}
+use Rattle.calls.specs.LookupAnswer.{looked-is}
 use borrow.Author.Needs.{needs}
 use Rattle.calls.proofs.lookup.looked.Statement.{statement}
 use Rattle.calls.proofs.lookup.looked.Tie as tie

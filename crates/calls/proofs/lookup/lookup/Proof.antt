@@ -1,8 +1,8 @@
 -- `lookup` meets its contract, as its tests find it.
 use mathlib.Core.Path.{sym, _∙_}
 use borrow.Author.Tests.{not-true, not-false}
-use Rattle.view.proofs.Lengths.{sized}
-use Rattle.calls.specs.Lookup.{lookup-refused, lookup-done}
+use Rattle.fields.proofs.Lengths.{sized}
+use Rattle.calls.specs.LookupAnswer.{lookup-refused, lookup-done}
 use borrow.Author.Needs.{needs}
 use Rattle.calls.proofs.lookup.lookup.Statement.{statement}
 use Rattle.calls.proofs.lookup.lookup.Tie as tie

@@ -2,7 +2,7 @@
 use mathlib.Core.Path.{sym, _∙_}
 use borrow.Author.Tests.{not-true, not-false}
 use Rattle.calls.specs.Refused.{unless-kept, unless-more}
-use Rattle.calls.specs.Lookup.{lookupTries}
+use Rattle.calls.specs.LookupAnswer.{lookupTries}
 use borrow.Author.Needs.{needs}
 use Rattle.calls.proofs.lookup.lookup_refusal.Statement.{statement}
 use Rattle.calls.proofs.lookup.lookup_refusal.Tie as tie

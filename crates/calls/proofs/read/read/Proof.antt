@@ -1,8 +1,8 @@
 -- `read` meets its contract, as its tests find it.
 use mathlib.Core.Path.{sym, _∙_}
 use borrow.Author.Tests.{not-true, not-false}
-use Rattle.view.proofs.Lengths.{sized}
-use Rattle.calls.specs.Read.{read-refused, read-done}
+use Rattle.fields.proofs.Lengths.{sized}
+use Rattle.calls.specs.ReadAnswer.{read-refused, read-done}
 use borrow.Author.Needs.{needs}
 use Rattle.calls.proofs.read.read.Statement.{statement}
 use Rattle.calls.proofs.read.read.Tie as tie

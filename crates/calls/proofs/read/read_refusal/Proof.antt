@@ -2,8 +2,8 @@
 use mathlib.Core.Path.{sym, _∙_}
 use borrow.Author.Tests.{not-true, not-false, le-leb, lt-leb}
 use Rattle.calls.specs.Refused.{unless-kept, unless-more}
-use Rattle.types.specs.Limits.{rows}
-use Rattle.calls.specs.Read.{readTries}
+use Rattle.records.specs.Limits.{rows}
+use Rattle.calls.specs.ReadAnswer.{readTries}
 use borrow.Author.Needs.{needs}
 use Rattle.calls.proofs.read.read_refusal.Statement.{statement}
 use Rattle.calls.proofs.read.read_refusal.Tie as tie

@@ -4,8 +4,8 @@ use borrow.Author.Tests.{not-true, not-false}
 use native.Mathlib.Omega.{arith}
 use Rattle.journal.specs.Adds.{adds-all}
 use Rattle.journal.specs.Applied.{apply-held}
-use Rattle.view.proofs.Lengths.{sized}
-use Rattle.calls.specs.Write.{takes-few, write-refused, write-placed, write-done}
+use Rattle.fields.proofs.Lengths.{sized}
+use Rattle.calls.specs.WriteAnswer.{takes-few, write-refused, write-placed, write-done}
 use borrow.Author.Needs.{needs}
 use Rattle.calls.proofs.write.write.Statement.{statement}
 use Rattle.calls.proofs.write.write.Tie as tie

@@ -2,8 +2,8 @@
 use mathlib.Core.Path.{sym, _∙_}
 use borrow.Author.Tests.{not-true, not-false, le-leb, lt-leb, eq-eqb, ne-eqb}
 use Rattle.calls.specs.Refused.{unless-kept, unless-more}
-use Rattle.types.specs.Limits.{rows, writeLimit}
-use Rattle.calls.specs.Write.{writeTries}
+use Rattle.records.specs.Limits.{rows, writeLimit}
+use Rattle.calls.specs.WriteAnswer.{writeTries}
 use borrow.Author.Needs.{needs}
 use Rattle.calls.proofs.write.write_refusal.Statement.{statement}
 use Rattle.calls.proofs.write.write_refusal.Tie as tie

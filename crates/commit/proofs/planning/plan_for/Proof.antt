@@ -1,7 +1,7 @@
 -- `plan_for` meets its contract: what is lent is the store's, and the marks are those of its walk.
 use mathlib.Core.Path.{_∙_}
 use mathlib.Core.Bool.{false}
-use Rattle.types.specs.Limits.{places}
+use Rattle.records.specs.Limits.{places}
 use Rattle.commit.specs.Plan.Planned.{plan-is}
 use Rattle.commit.specs.Planning.{whole, marks-are, laid-at, laid-count}
 use borrow.Author.Needs.{needs}

@@ -3,7 +3,7 @@ use mathlib.Core.Path.{_≡_, refl}
 use mathlib.Core.Bool.{true}
 use Rattle.rules.specs.Fit.{fit}
 use Rattle.rules.specs.Commit.{runOf}
-use Rattle.view.proofs.Lengths.{sized}
+use Rattle.fields.proofs.Lengths.{sized}
 use Rattle.journal.specs.Journal.{Holds}
 use Rattle.steps.specs.Stops.{gateOf, gate-of}
 use Rattle.commit.specs.Planning.{run-pushed}

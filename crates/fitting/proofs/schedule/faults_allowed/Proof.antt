@@ -5,12 +5,12 @@ use native.Mathlib.Omega.{arith}
 use borrow.Author.Needs.{needs}
 use borrow.Author.Tests.{not-true, not-false}
 use lib.ListN.{take}
-use Rattle.types.specs.Limits.{faultLimit}
-use Rattle.types.specs.Zero.{noFault}
+use Rattle.records.specs.Limits.{faultLimit}
+use Rattle.records.specs.Zero.{noFault}
 use Rattle.rules.specs.Lists.{all}
 use Rattle.rules.specs.Faults.{allowed}
-use Rattle.view.specs.Lent.{array}
-use Rattle.view.specs.Scan.{firstLeft, first-pass, first-fail, first-none}
+use Rattle.fields.specs.Lent.{array}
+use Rattle.fields.specs.Scan.{firstLeft, first-pass, first-fail, first-none}
 use Rattle.fitting.proofs.schedule.faults_allowed.Statement.{statement}
 use Rattle.fitting.proofs.schedule.faults_allowed.Tie as tie
 

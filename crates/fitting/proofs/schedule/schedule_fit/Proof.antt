@@ -3,12 +3,12 @@ use mathlib.Core.Path.{_≡_}
 use mathlib.Core.Logic.{⊎-elim}
 use native.Mathlib.Omega.{arith}
 use lib.ListN.{take}
-use Rattle.types.specs.Limits.{faultLimit}
-use Rattle.types.specs.Zero.{noFault}
+use Rattle.records.specs.Limits.{faultLimit}
+use Rattle.records.specs.Zero.{noFault}
 use Rattle.rules.specs.Faults.{faultsOf}
-use Rattle.view.specs.Lent.{array}
+use Rattle.fields.specs.Lent.{array}
 use Rattle.fitting.specs.Fits.{first-some, first-all, schedule-unfit, schedule-apart}
-use Rattle.view.proofs.Lengths.{faults-long}
+use Rattle.fields.proofs.Lengths.{faults-long}
 use Rattle.fitting.proofs.schedule.schedule_fit.Statement.{statement}
 use Rattle.fitting.proofs.schedule.schedule_fit.Tie as tie
 

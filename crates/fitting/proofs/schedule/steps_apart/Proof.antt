@@ -5,11 +5,11 @@ use native.Mathlib.Omega.{arith}
 use borrow.Author.Needs.{needs}
 use borrow.Author.Tests.{not-true, not-false}
 use lib.ListN.{take}
-use Rattle.types.specs.Limits.{faultLimit}
-use Rattle.types.specs.Zero.{noFault}
+use Rattle.records.specs.Limits.{faultLimit}
+use Rattle.records.specs.Zero.{noFault}
 use Rattle.rules.specs.Faults.{stepsApart}
 use Rattle.fitting.specs.Allowed.{stepsDiffer, steps-apart}
-use Rattle.view.specs.Lent.{array}
+use Rattle.fields.specs.Lent.{array}
 use Rattle.fitting.specs.Apart.{apartLeft, apart-pass, apart-fail, apart-end}
 use Rattle.fitting.proofs.schedule.steps_apart.Statement.{statement}
 use Rattle.fitting.proofs.schedule.steps_apart.Tie as tie

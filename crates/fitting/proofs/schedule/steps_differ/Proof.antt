@@ -4,13 +4,13 @@ use Prim.Native.Nat.{_+_, _-_, _≤_}
 use native.Mathlib.Omega.{arith}
 use borrow.Author.Needs.{needs}
 use lib.ListN.{getD, take, drop}
-use Rattle.types.specs.Limits.{faultLimit}
-use Rattle.types.specs.Zero.{noFault}
+use Rattle.records.specs.Limits.{faultLimit}
+use Rattle.records.specs.Zero.{noFault}
 use Rattle.rules.specs.Lists.{all}
-use Rattle.view.specs.Lent.{array}
+use Rattle.fields.specs.Lent.{array}
 use Rattle.fitting.specs.Allowed.{stepsDiffer}
-use Rattle.view.specs.Facts.{differ-yes, differ-no}
-use Rattle.view.specs.Scan.{firstLeft, first-pass, first-fail, first-none}
+use Rattle.fields.specs.Facts.{differ-yes, differ-no}
+use Rattle.fields.specs.Scan.{firstLeft, first-pass, first-fail, first-none}
 use Rattle.fitting.proofs.schedule.steps_differ.Statement.{statement}
 use Rattle.fitting.proofs.schedule.steps_differ.Tie as tie
 

@@ -3,7 +3,7 @@ use mathlib.Core.Path.{ap, _∙_}
 use borrow.Author.Needs.{needs}
 use Rattle.rules.specs.Chains.{Walk}
 use Rattle.fitting.specs.Fits.{fit-by}
-use Rattle.view.proofs.Lengths.{sized}
+use Rattle.fields.proofs.Lengths.{sized}
 use Rattle.fitting.proofs.tx.fit.Statement.{statement}
 use Rattle.fitting.proofs.tx.fit.Tie as tie
 

@@ -4,11 +4,11 @@ use Prim.Native.Nat.{_-_}
 use native.Mathlib.Omega.{arith}
 use borrow.Author.Needs.{needs}
 use lib.ListN.{drop}
-use Rattle.types.specs.Limits.{indexReadLimit}
-use Rattle.types.specs.Zero.{noIndexRead}
+use Rattle.records.specs.Limits.{indexReadLimit}
+use Rattle.records.specs.Zero.{noIndexRead}
 use Rattle.rules.specs.Lists.{all}
-use Rattle.view.specs.Lent.{array}
-use Rattle.view.specs.Scan.{allLeft, all-pass, all-fail, all-end}
+use Rattle.fields.specs.Lent.{array}
+use Rattle.fields.specs.Scan.{allLeft, all-pass, all-fail, all-end}
 use Rattle.fitting.specs.Fitting.{zeroIndexRead, stripe-set, stamp-set, index-read-unset}
 use Rattle.fitting.proofs.tx.no_index_read_from.Statement.{statement}
 use Rattle.fitting.proofs.tx.no_index_read_from.Tie as tie

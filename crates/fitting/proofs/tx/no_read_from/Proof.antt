@@ -4,11 +4,11 @@ use Prim.Native.Nat.{_-_}
 use native.Mathlib.Omega.{arith}
 use borrow.Author.Needs.{needs}
 use lib.ListN.{drop}
-use Rattle.types.specs.Limits.{readLimit}
-use Rattle.types.specs.Zero.{noRead}
+use Rattle.records.specs.Limits.{readLimit}
+use Rattle.records.specs.Zero.{noRead}
 use Rattle.rules.specs.Lists.{all}
-use Rattle.view.specs.Lent.{array}
-use Rattle.view.specs.Scan.{allLeft, all-pass, all-fail, all-end}
+use Rattle.fields.specs.Lent.{array}
+use Rattle.fields.specs.Scan.{allLeft, all-pass, all-fail, all-end}
 use Rattle.fitting.specs.Fitting.{zeroRead, read-row-set, read-ptr-set, read-xmin-set, read-unset}
 use Rattle.fitting.proofs.tx.no_read_from.Statement.{statement}
 use Rattle.fitting.proofs.tx.no_read_from.Tie as tie

@@ -4,11 +4,11 @@ use Prim.Native.Nat.{_-_}
 use native.Mathlib.Omega.{arith}
 use borrow.Author.Needs.{needs}
 use lib.ListN.{drop}
-use Rattle.types.specs.Limits.{savepointLimit}
+use Rattle.records.specs.Limits.{savepointLimit}
 use Rattle.rules.specs.Lists.{allZero, isZero}
-use Rattle.view.specs.Lent.{array}
-use Rattle.view.specs.Scan.{allLeft, all-pass, all-fail, all-end}
-use Rattle.view.specs.Facts.{zero-yes, zero-no}
+use Rattle.fields.specs.Lent.{array}
+use Rattle.fields.specs.Scan.{allLeft, all-pass, all-fail, all-end}
+use Rattle.fields.specs.Facts.{zero-yes, zero-no}
 use Rattle.fitting.proofs.tx.no_savepoint_from.Statement.{statement}
 use Rattle.fitting.proofs.tx.no_savepoint_from.Tie as tie
 

@@ -4,11 +4,11 @@ use Prim.Native.Nat.{_-_}
 use native.Mathlib.Omega.{arith}
 use borrow.Author.Needs.{needs}
 use lib.ListN.{drop}
-use Rattle.types.specs.Limits.{writeLimit}
-use Rattle.types.specs.Zero.{noWrite}
+use Rattle.records.specs.Limits.{writeLimit}
+use Rattle.records.specs.Zero.{noWrite}
 use Rattle.rules.specs.Lists.{all}
-use Rattle.view.specs.Lent.{array}
-use Rattle.view.specs.Scan.{allLeft, all-pass, all-fail, all-end}
+use Rattle.fields.specs.Lent.{array}
+use Rattle.fields.specs.Scan.{allLeft, all-pass, all-fail, all-end}
 use Rattle.fitting.specs.Fitting.{zeroWrite, write-row-set, write-base-set, write-new-set, write-unset}
 use Rattle.fitting.proofs.tx.no_write_from.Statement.{statement}
 use Rattle.fitting.proofs.tx.no_write_from.Tie as tie

@@ -4,12 +4,12 @@ use Prim.Native.Nat.{_-_, _≤_}
 use native.Mathlib.Omega.{arith}
 use borrow.Author.Needs.{needs}
 use lib.ListN.{getD, take}
-use Rattle.types.specs.Limits.{readLimit}
-use Rattle.types.specs.Zero.{noRead}
+use Rattle.records.specs.Limits.{readLimit}
+use Rattle.records.specs.Zero.{noRead}
 use Rattle.rules.specs.Lists.{all}
 use Rattle.rules.specs.Fit.{readFit}
-use Rattle.view.specs.Lent.{array}
-use Rattle.view.specs.Scan.{firstLeft, first-pass, first-fail, first-none}
+use Rattle.fields.specs.Lent.{array}
+use Rattle.fields.specs.Scan.{firstLeft, first-pass, first-fail, first-none}
 use Rattle.fitting.specs.Fitting.{read-row, read-low, read-high, read-fits}
 use Rattle.fitting.proofs.tx.reads_fit.Statement.{statement}
 use Rattle.fitting.proofs.tx.reads_fit.Tie as tie

@@ -5,10 +5,10 @@ use native.Mathlib.Omega.{arith}
 use borrow.Author.Needs.{needs}
 use borrow.Author.Tests.{le-leb, lt-leb}
 use lib.ListN.{take}
-use Rattle.types.specs.Limits.{savepointLimit}
+use Rattle.records.specs.Limits.{savepointLimit}
 use lib.Dec.{leb}
-use Rattle.view.specs.Lent.{array}
-use Rattle.view.specs.Climb.{climb, climbLeft, climb-end, climb-low, climb-fails, climb-pass}
+use Rattle.fields.specs.Lent.{array}
+use Rattle.fields.specs.Climb.{climb, climbLeft, climb-end, climb-low, climb-fails, climb-pass}
 use Rattle.fitting.proofs.tx.savepoints_fit.Statement.{statement}
 use Rattle.fitting.proofs.tx.savepoints_fit.Tie as tie
 

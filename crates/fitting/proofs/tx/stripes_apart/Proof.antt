@@ -5,10 +5,10 @@ use native.Mathlib.Omega.{arith}
 use borrow.Author.Needs.{needs}
 use borrow.Author.Tests.{not-true, not-false}
 use lib.ListN.{take}
-use Rattle.types.specs.Limits.{indexReadLimit}
-use Rattle.types.specs.Zero.{noIndexRead}
+use Rattle.records.specs.Limits.{indexReadLimit}
+use Rattle.records.specs.Zero.{noIndexRead}
 use Rattle.rules.specs.Fit.{stripesApart}
-use Rattle.view.specs.Lent.{array}
+use Rattle.fields.specs.Lent.{array}
 use Rattle.fitting.specs.Fitting.{stripesLeft, stripes-end, stripes-high, stripes-twice, stripes-pass}
 use Rattle.fitting.proofs.tx.stripes_apart.Statement.{statement}
 use Rattle.fitting.proofs.tx.stripes_apart.Tie as tie

@@ -4,13 +4,13 @@ use Prim.Native.Nat.{_+_, _-_, _≤_}
 use native.Mathlib.Omega.{arith}
 use borrow.Author.Needs.{needs}
 use lib.ListN.{getD, take, drop}
-use Rattle.types.specs.Limits.{indexReadLimit}
-use Rattle.types.specs.Zero.{noIndexRead}
+use Rattle.records.specs.Limits.{indexReadLimit}
+use Rattle.records.specs.Zero.{noIndexRead}
 use Rattle.rules.specs.Lists.{all}
-use Rattle.view.specs.Lent.{array}
-use Rattle.view.specs.Facts.{differ-yes, differ-no}
+use Rattle.fields.specs.Lent.{array}
+use Rattle.fields.specs.Facts.{differ-yes, differ-no}
 use Rattle.fitting.specs.Fitting.{stripesDiffer}
-use Rattle.view.specs.Scan.{firstLeft, first-pass, first-fail, first-none}
+use Rattle.fields.specs.Scan.{firstLeft, first-pass, first-fail, first-none}
 use Rattle.fitting.proofs.tx.stripes_differ.Statement.{statement}
 use Rattle.fitting.proofs.tx.stripes_differ.Tie as tie
 

@@ -5,11 +5,11 @@ use native.Mathlib.Omega.{arith}
 use borrow.Author.Needs.{needs}
 use borrow.Author.Tests.{not-true, not-false}
 use lib.ListN.{take}
-use Rattle.types.specs.Limits.{writeLimit}
-use Rattle.types.specs.Zero.{noWrite}
+use Rattle.records.specs.Limits.{writeLimit}
+use Rattle.records.specs.Zero.{noWrite}
 use Rattle.rules.specs.Fit.{writesApart}
 use Rattle.fitting.specs.Fitting.{writesDiffer, writes-apart}
-use Rattle.view.specs.Lent.{array}
+use Rattle.fields.specs.Lent.{array}
 use Rattle.fitting.specs.Apart.{apartLeft, apart-pass, apart-fail, apart-end}
 use Rattle.fitting.proofs.tx.writes_apart.Statement.{statement}
 use Rattle.fitting.proofs.tx.writes_apart.Tie as tie

@@ -5,12 +5,12 @@ use Prim.Native.Nat.{_+_, _-_, _≤_}
 use native.Mathlib.Omega.{arith}
 use borrow.Author.Needs.{needs}
 use lib.ListN.{getD, take, drop}
-use Rattle.types.specs.Limits.{writeLimit}
-use Rattle.types.specs.Zero.{noWrite}
+use Rattle.records.specs.Limits.{writeLimit}
+use Rattle.records.specs.Zero.{noWrite}
 use Rattle.rules.specs.Lists.{all}
-use Rattle.view.specs.Lent.{array}
+use Rattle.fields.specs.Lent.{array}
 use Rattle.fitting.specs.Fitting.{writesDiffer, same-new, other-base, other-row, same-base}
-use Rattle.view.specs.Scan.{firstLeft, first-pass, first-fail, first-none}
+use Rattle.fields.specs.Scan.{firstLeft, first-pass, first-fail, first-none}
 use Rattle.fitting.proofs.tx.writes_differ.Statement.{statement}
 use Rattle.fitting.proofs.tx.writes_differ.Tie as tie
 

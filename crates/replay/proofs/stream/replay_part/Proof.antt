@@ -5,9 +5,9 @@ use Prim.Native.Nat.{ℕ, _-_, _<_, _≤_}
 use native.Mathlib.Omega.{arith}
 use lib.ListN.{length, take, drop, length-replicate, length-take, length-drop}
 use borrow.Author.Needs.{needs}
-use Rattle.desk.specs.Feed.{Reading, answerRoom, Feeds}
-use Rattle.desk.specs.FeedLaws.{takes-some}
-use Rattle.desk.specs.declared.feed.Fed.{Fed}
+use Rattle.replay_core.specs.Feed.{Reading, answerRoom, Feeds}
+use Rattle.replay_core.specs.FeedLaws.{takes-some}
+use Rattle.replay_core.specs.declared.feed.Fed.{Fed}
 use Rattle.replay.proofs.stream.replay_part.Statement.{statement}
 use Rattle.replay.proofs.stream.replay_part.Tie as tie
 

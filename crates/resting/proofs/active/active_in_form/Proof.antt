@@ -5,10 +5,10 @@ use Prim.Native.Nat.{_-_, _≤_}
 use native.Mathlib.Omega.{arith}
 use borrow.Author.Needs.{needs}
 use borrow.Author.Tests.{leb-true, leb-false}
-use Rattle.types.specs.Limits.{activeLimit}
+use Rattle.records.specs.Limits.{activeLimit}
 use Rattle.rules.specs.Store.{activeInForm}
-use Rattle.view.specs.Lent.{array}
-use Rattle.resting.specs.Active.{activeLeft, active-from, active-stop, active-low, active-high, active-pass, active-end}
+use Rattle.fields.specs.Lent.{array}
+use Rattle.resting.specs.ActiveForm.{activeLeft, active-from, active-stop, active-low, active-high, active-pass, active-end}
 use Rattle.resting.proofs.active.active_in_form.Statement.{statement}
 use Rattle.resting.proofs.active.active_in_form.Tie as tie
 

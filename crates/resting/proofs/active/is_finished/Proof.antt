@@ -1,9 +1,9 @@
 -- `is_finished` meets its contract: the array has its length.
 use mathlib.Core.Path.{sym, ap, _∙_}
 use borrow.Author.Needs.{needs}
-use Rattle.types.specs.Limits.{activeLimit}
+use Rattle.records.specs.Limits.{activeLimit}
 use Rattle.rules.specs.Admitted.{finished}
-use Rattle.view.specs.Lent.{array-same}
+use Rattle.fields.specs.Lent.{array-same}
 use Rattle.resting.proofs.active.is_finished.Statement.{statement}
 use Rattle.resting.proofs.active.is_finished.Tie as tie
 

@@ -2,9 +2,9 @@
 use mathlib.Core.Path.{sym, ap, _∙_}
 use lib.ListN.{drop}
 use borrow.Author.Needs.{needs}
-use Rattle.types.specs.Limits.{activeLimit}
+use Rattle.records.specs.Limits.{activeLimit}
 use Rattle.rules.specs.Lists.{allZero}
-use Rattle.view.specs.Lent.{array-same}
+use Rattle.fields.specs.Lent.{array-same}
 use Rattle.resting.proofs.active.zero_from.Statement.{statement}
 use Rattle.resting.proofs.active.zero_from.Tie as tie
 

@@ -3,7 +3,7 @@ use mathlib.Core.Path.{sym, _∙_}
 use mathlib.Core.Logic.{⊎-elim}
 use borrow.Author.Needs.{needs}
 use borrow.Author.Tests.{eqb-true, eqb-false, not-true, not-false}
-use Rattle.resting.specs.Versions.{chain-none, first-over, first-zero, first-unfinished, ahead-over, ahead-alone, behind-other, behind-zero, behind-it}
+use Rattle.resting.specs.VersionTurns.{chain-none, first-over, first-zero, first-unfinished, ahead-over, ahead-alone, behind-other, behind-zero, behind-it}
 use Rattle.resting.proofs.chains.chain_ok.Statement.{statement}
 use Rattle.resting.proofs.chains.chain_ok.Tie as tie
 

@@ -4,11 +4,11 @@ use Prim.Native.Nat.{_-_, _≤_}
 use native.Mathlib.Omega.{arith}
 use borrow.Author.Needs.{needs}
 use borrow.Author.Tests.{not-true, not-false}
-use Rattle.types.specs.Limits.{rows}
+use Rattle.records.specs.Limits.{rows}
 use Rattle.rules.specs.Lists.{all}
-use Rattle.view.specs.Lent.{atRows}
-use Rattle.resting.specs.Versions.{chainAt}
-use Rattle.view.specs.Scan.{allLeft, all-pass, all-fail, all-end}
+use Rattle.fields.specs.Lent.{atRows}
+use Rattle.resting.specs.VersionTurns.{chainAt}
+use Rattle.fields.specs.Scan.{allLeft, all-pass, all-fail, all-end}
 use Rattle.resting.proofs.chains.chains_ok.Statement.{statement}
 use Rattle.resting.proofs.chains.chains_ok.Tie as tie
 

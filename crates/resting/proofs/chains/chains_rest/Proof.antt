@@ -5,10 +5,10 @@ use Prim.Native.Nat.{_-_, _≤_}
 use native.Mathlib.Omega.{arith}
 use borrow.Author.Needs.{needs}
 use borrow.Author.Tests.{not-true, not-false}
-use Rattle.types.specs.Limits.{places}
+use Rattle.records.specs.Limits.{places}
 use Rattle.rules.specs.Lists.{all}
 use Rattle.rules.specs.Store.{usedSlots}
-use Rattle.view.specs.Lent.{atPlaces}
+use Rattle.fields.specs.Lent.{atPlaces}
 use Rattle.resting.specs.Used.{restAt, usedLeft, used-free, used-pass, used-fail, used-end}
 use Rattle.resting.proofs.chains.chains_rest.Statement.{statement}
 use Rattle.resting.proofs.chains.chains_rest.Tie as tie

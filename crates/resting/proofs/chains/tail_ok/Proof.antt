@@ -3,7 +3,7 @@ use mathlib.Core.Path.{_≡_, sym, _∙_}
 use native.Mathlib.Omega.{arith}
 use borrow.Author.Needs.{needs}
 use borrow.Author.Tests.{eqb-true, eqb-false, not-true, not-false}
-use Rattle.resting.specs.Versions.{tailAt, tail-null, tail-out, tail-unfinished, tail-over, tail-step}
+use Rattle.resting.specs.VersionTurns.{tailAt, tail-null, tail-out, tail-unfinished, tail-over, tail-step}
 use Rattle.resting.proofs.chains.tail_ok.Statement.{statement}
 use Rattle.resting.proofs.chains.tail_ok.Tie as tie
 

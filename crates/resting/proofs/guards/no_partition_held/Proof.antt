@@ -1,9 +1,9 @@
 -- `no_partition_held` meets its contract: the array has its length.
 use mathlib.Core.Path.{sym, ap, _∙_}
 use borrow.Author.Needs.{needs}
-use Rattle.types.specs.Limits.{partitions}
+use Rattle.records.specs.Limits.{partitions}
 use Rattle.rules.specs.Lists.{allZero}
-use Rattle.view.specs.Lent.{array-same}
+use Rattle.fields.specs.Lent.{array-same}
 use Rattle.resting.proofs.guards.no_partition_held.Statement.{statement}
 use Rattle.resting.proofs.guards.no_partition_held.Tie as tie
 

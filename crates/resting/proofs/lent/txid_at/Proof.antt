@@ -1,7 +1,7 @@
 -- `txid_at` meets its contract.
 use mathlib.Core.Path.{sym}
 use borrow.Author.Needs.{needs}
-use Rattle.view.specs.Lent.{array-at, array-past}
+use Rattle.fields.specs.Lent.{array-at, array-past}
 use Rattle.resting.proofs.lent.txid_at.Statement.{statement}
 use Rattle.resting.proofs.lent.txid_at.Tie as tie
 

@@ -5,11 +5,11 @@ use native.Mathlib.Omega.{arith}
 use borrow.Author.Needs.{needs}
 use borrow.Author.Tests.{not-true, not-false}
 use lib.ListN.{take}
-use Rattle.types.specs.Limits.{postingLimit}
+use Rattle.records.specs.Limits.{postingLimit}
 use Rattle.rules.specs.Lists.{all}
-use Rattle.view.specs.Lent.{array}
-use Rattle.resting.specs.Posted.{toldAt}
-use Rattle.view.specs.Scan.{firstLeft, first-pass, first-fail, first-none, first-out}
+use Rattle.fields.specs.Lent.{array}
+use Rattle.resting.specs.PostingForm.{toldAt}
+use Rattle.fields.specs.Scan.{firstLeft, first-pass, first-fail, first-none, first-out}
 use Rattle.resting.proofs.postings.each_told.Statement.{statement}
 use Rattle.resting.proofs.postings.each_told.Tie as tie
 

@@ -1,7 +1,7 @@
 -- `postings_in_form` meets its contract.
 use borrow.Author.Needs.{needs}
 use borrow.Author.Tests.{not-true, not-false}
-use Rattle.resting.specs.Posted.{form-over, form-rise, form-else}
+use Rattle.resting.specs.PostingForm.{form-over, form-rise, form-else}
 use Rattle.resting.proofs.postings.postings_in_form.Statement.{statement}
 use Rattle.resting.proofs.postings.postings_in_form.Tie as tie
 

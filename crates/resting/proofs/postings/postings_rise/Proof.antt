@@ -6,10 +6,10 @@ use native.Mathlib.Numerals.{add-one}
 use borrow.Author.Needs.{needs}
 use borrow.Author.Tests.{lt-ltb, le-ltb}
 use lib.ListN.{take}
-use Rattle.types.specs.Limits.{postingLimit}
-use Rattle.view.specs.Lent.{array}
-use Rattle.view.specs.Climb.{climb, climbLeft, climb-end, climb-low, climb-fails, climb-pass}
-use Rattle.resting.specs.Posted.{keyed}
+use Rattle.records.specs.Limits.{postingLimit}
+use Rattle.fields.specs.Lent.{array}
+use Rattle.fields.specs.Climb.{climb, climbLeft, climb-end, climb-low, climb-fails, climb-pass}
+use Rattle.resting.specs.PostingForm.{keyed}
 use Rattle.resting.proofs.postings.postings_rise.Statement.{statement}
 use Rattle.resting.proofs.postings.postings_rise.Tie as tie
 

@@ -3,7 +3,7 @@ use native.Mathlib.Omega.{arith}
 use borrow.Author.Needs.{needs}
 use borrow.Author.Tests.{not-true, not-false}
 use mathlib.Core.Path.{refl}
-use Rattle.resting.specs.Posted.{told-absent, told-key}
+use Rattle.resting.specs.PostingForm.{told-absent, told-key}
 use Rattle.resting.proofs.postings.told_by_head.Statement.{statement}
 use Rattle.resting.proofs.postings.told_by_head.Tie as tie
 

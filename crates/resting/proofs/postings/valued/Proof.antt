@@ -7,10 +7,10 @@ use Prim.Native.Nat.{ℕ, _+_, _-_, _<_, _≤_}
 use native.Mathlib.Omega.{arith}
 use borrow.Author.Needs.{needs}
 use lib.ListN.{length, getD}
-use Rattle.types.specs.Limits.{rows}
+use Rattle.records.specs.Limits.{rows}
 use Rattle.rules.specs.Lists.{those}
-use Rattle.view.specs.Lent.{atRows, flagsAtPlaces}
-use Rattle.resting.specs.Scan.{countLeft, count-yes, count-no, count-end}
+use Rattle.fields.specs.Lent.{atRows, flagsAtPlaces}
+use Rattle.resting.specs.PairScan.{countLeft, count-yes, count-no, count-end}
 use Rattle.resting.proofs.postings.valued.Statement.{statement}
 use Rattle.resting.proofs.postings.valued.Tie as tie
 

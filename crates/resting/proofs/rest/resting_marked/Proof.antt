@@ -2,7 +2,7 @@
 use mathlib.Core.Path.{_∙_}
 use borrow.Author.Needs.{needs}
 use Rattle.resting.specs.Lending.{lent-resting}
-use Rattle.view.proofs.Lengths.{sized}
+use Rattle.fields.proofs.Lengths.{sized}
 use Rattle.resting.proofs.rest.resting_marked.Statement.{statement}
 use Rattle.resting.proofs.rest.resting_marked.Tie as tie
 

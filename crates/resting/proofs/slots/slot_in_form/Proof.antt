@@ -2,7 +2,7 @@
 use mathlib.Core.Path.{sym}
 use mathlib.Core.Bool.{and-true}
 use Rattle.rules.specs.Lists.{every}
-use Rattle.view.specs.Facts.{zero-yes, zero-no, nonzero-yes, nonzero-no}
+use Rattle.fields.specs.Facts.{zero-yes, zero-no, nonzero-yes, nonzero-no}
 use Rattle.resting.proofs.slots.slot_in_form.Statement.{statement}
 use Rattle.resting.proofs.slots.slot_in_form.Tie as tie
 

@@ -4,11 +4,11 @@ use Prim.Native.Nat.{_-_, _≤_}
 use native.Mathlib.Omega.{arith}
 use borrow.Author.Needs.{needs}
 use borrow.Author.Tests.{not-true, not-false}
-use Rattle.types.specs.Limits.{places}
+use Rattle.records.specs.Limits.{places}
 use Rattle.rules.specs.Store.{slotsInForm}
-use Rattle.view.specs.Every.{every-fails}
-use Rattle.view.specs.Facts.{nonzero-yes}
-use Rattle.resting.specs.Form.{formLeft, form-says, form-pass, form-fail, form-end}
+use Rattle.fields.specs.Every.{every-fails}
+use Rattle.fields.specs.Facts.{nonzero-yes}
+use Rattle.resting.specs.SlotForm.{formLeft, form-says, form-pass, form-fail, form-end}
 use Rattle.resting.proofs.slots.slots_in_form.Statement.{statement}
 use Rattle.resting.proofs.slots.slots_in_form.Tie as tie
 

@@ -5,11 +5,11 @@ use Prim.Native.Nat.{_-_, _≤_}
 use native.Mathlib.Omega.{arith}
 use borrow.Author.Needs.{needs}
 use borrow.Author.Tests.{not-true, not-false}
-use Rattle.types.specs.Limits.{places}
+use Rattle.records.specs.Limits.{places}
 use Rattle.rules.specs.Lists.{eachOr, isZero, nonzero}
-use Rattle.view.specs.Lent.{atPlaces}
-use Rattle.resting.specs.Scan.{eachLeft, each-first, each-second, each-fail, each-end}
-use Rattle.view.specs.Facts.{nonzero-yes, nonzero-no}
+use Rattle.fields.specs.Lent.{atPlaces}
+use Rattle.resting.specs.PairScan.{eachLeft, each-first, each-second, each-fail, each-end}
+use Rattle.fields.specs.Facts.{nonzero-yes, nonzero-no}
 use Rattle.resting.proofs.slots.used_if_marked.Statement.{statement}
 use Rattle.resting.proofs.slots.used_if_marked.Tie as tie
 

@@ -4,11 +4,11 @@ use Prim.Native.Nat.{_-_, _≤_}
 use native.Mathlib.Omega.{arith}
 use borrow.Author.Needs.{needs}
 use borrow.Author.Tests.{le-ltb, lt-ltb}
-use Rattle.types.specs.Limits.{places}
+use Rattle.records.specs.Limits.{places}
 use lib.Dec.{ltb}
 use Rattle.rules.specs.Lists.{all}
-use Rattle.view.specs.Lent.{atPlaces}
-use Rattle.view.specs.Scan.{allLeft, all-pass, all-fail, all-end}
+use Rattle.fields.specs.Lent.{atPlaces}
+use Rattle.fields.specs.Scan.{allLeft, all-pass, all-fail, all-end}
 use Rattle.resting.proofs.slots.xmins_below.Statement.{statement}
 use Rattle.resting.proofs.slots.xmins_below.Tie as tie
 

@@ -4,7 +4,7 @@ use Prim.Native.Nat.{_≤_, _<_, _-_}
 use native.Mathlib.Omega.{arith}
 use borrow.Author.Needs.{needs}
 use lib.ListN.{length, drop}
-use Rattle.types.specs.Limits.{keyEnd}
+use Rattle.records.specs.Limits.{keyEnd}
 use Rattle.script.specs.Fields.{numFrom}
 use Rattle.script.specs.FieldLaws.{digits-end, digits-low, digits-high, digits-large, digits-more}
 use Rattle.script.proofs.field.digits.Statement.{statement}

@@ -1,7 +1,7 @@
 -- `commit` meets its contract: it goes by what the fields' parsers answer.
 use mathlib.Core.Path.{sym, _∙_}
 use borrow.Author.Needs.{needs}
-use Rattle.script.specs.Forms.{commit-fields}
+use Rattle.script.specs.LineForms.{commit-fields}
 use Rattle.script.proofs.form.commit.Statement.{statement}
 use Rattle.script.proofs.form.commit.Tie as tie
 

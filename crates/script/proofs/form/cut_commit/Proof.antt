@@ -1,7 +1,7 @@
 -- `cut_commit` meets its contract: it goes by what the fields' parsers answer.
 use mathlib.Core.Path.{sym, _∙_}
 use borrow.Author.Needs.{needs}
-use Rattle.script.specs.Forms.{cut-fields}
+use Rattle.script.specs.LineForms.{cut-fields}
 use Rattle.script.proofs.form.cut_commit.Statement.{statement}
 use Rattle.script.proofs.form.cut_commit.Tie as tie
 

@@ -1,7 +1,7 @@
 -- `fault` meets its contract: it goes by what the fields' parsers answer.
 use mathlib.Core.Path.{sym, _∙_}
 use borrow.Author.Needs.{needs}
-use Rattle.script.specs.Forms.{fault-fields}
+use Rattle.script.specs.LineForms.{fault-fields}
 use Rattle.script.proofs.form.fault.Statement.{statement}
 use Rattle.script.proofs.form.fault.Tie as tie
 

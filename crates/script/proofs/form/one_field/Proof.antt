@@ -2,7 +2,7 @@
 use mathlib.Core.Path.{sym, _∙_}
 use borrow.Author.Tests.{ne-eqb}
 use borrow.Author.Needs.{needs}
-use Rattle.script.specs.Forms.{one-field, bad}
+use Rattle.script.specs.LineForms.{one-field, bad}
 use Rattle.script.proofs.form.one_field.Statement.{statement}
 use Rattle.script.proofs.form.one_field.Tie as tie
 

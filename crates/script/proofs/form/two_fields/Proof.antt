@@ -2,7 +2,7 @@
 use mathlib.Core.Path.{sym, _∙_}
 use borrow.Author.Tests.{ne-eqb}
 use borrow.Author.Needs.{needs}
-use Rattle.script.specs.Forms.{two-fields, bad}
+use Rattle.script.specs.LineForms.{two-fields, bad}
 use Rattle.script.proofs.form.two_fields.Statement.{statement}
 use Rattle.script.proofs.form.two_fields.Tie as tie
 

@@ -1,7 +1,7 @@
 -- `write` meets its contract: it goes by what the fields' parsers answer.
 use mathlib.Core.Path.{sym, _∙_}
 use borrow.Author.Needs.{needs}
-use Rattle.script.specs.Forms.{write-fields}
+use Rattle.script.specs.LineForms.{write-fields}
 use Rattle.script.proofs.form.write.Statement.{statement}
 use Rattle.script.proofs.form.write.Tie as tie
 

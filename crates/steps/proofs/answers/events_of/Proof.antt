@@ -1,6 +1,6 @@
 -- `events_of` meets its contract, flag by flag.
 use Rattle.rules.specs.Answer.{eventsOf}
-use Rattle.steps.specs.Answers.{eventsBy}
+use Rattle.steps.specs.RecordAndEvents.{eventsBy}
 use borrow.Author.Needs.{needs}
 use Rattle.steps.proofs.answers.events_of.Statement.{statement}
 use Rattle.steps.proofs.answers.events_of.Tie as tie

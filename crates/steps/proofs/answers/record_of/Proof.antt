@@ -1,7 +1,7 @@
 -- `record_of` meets its contract: the record of a commit that is done, and else none.
 use Rattle.rules.specs.Answer.{noRecord}
-use Rattle.asks.specs.Finals.{finalsLaid}
-use Rattle.steps.specs.Answers.{recordIf}
+use Rattle.commit_tests.specs.FinalTurns.{finalsLaid}
+use Rattle.steps.specs.RecordAndEvents.{recordIf}
 use borrow.Author.Needs.{needs}
 use Rattle.steps.proofs.answers.record_of.Statement.{statement}
 use Rattle.steps.proofs.answers.record_of.Tie as tie

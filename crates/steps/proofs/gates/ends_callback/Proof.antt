@@ -1,7 +1,7 @@
 -- `ends_callback` meets its contract, letter by letter.
 use borrow.Author.Tests.{ne-eqb}
 use lib.Dec.{eqb}
-use Rattle.rules.specs.Bools.{by}
+use Rattle.basic_laws.specs.Cases.{by}
 use Rattle.rules.specs.Faults.{Q}
 use Rattle.steps.proofs.gates.ends_callback.Statement.{statement}
 use Rattle.steps.proofs.gates.ends_callback.Tie as tie

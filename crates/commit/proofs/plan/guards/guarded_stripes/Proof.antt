@@ -4,12 +4,12 @@ use mathlib.Core.List.{map}
 use Prim.Native.Nat.{_-_, _≤_, min}
 use native.Mathlib.Omega.{arith}
 use lib.ListN.{length}
-use Rattle.types.specs.Limits.{stripes, indexReadLimit}
-use Rattle.types.specs.Zero.{noIndexRead}
+use Rattle.records.specs.Limits.{stripes, indexReadLimit}
+use Rattle.records.specs.Zero.{noIndexRead}
 use Rattle.rules.specs.Transaction.{indexReadsOf}
-use Rattle.view.specs.First.{firstFrom, first-next, first-end}
-use Rattle.view.proofs.Lengths.{index-reads-long}
-use Rattle.view.specs.Marks.{markAll, mark-next, mark-high}
+use Rattle.fields.specs.First.{firstFrom, first-next, first-end}
+use Rattle.fields.proofs.Lengths.{index-reads-long}
+use Rattle.fields.specs.Marks.{markAll, mark-next, mark-high}
 use Rattle.commit.specs.Plan.Guards.{stripeRead}
 use borrow.Author.Needs.{needs}
 use Rattle.commit.proofs.plan.guards.guarded_stripes.Statement.{statement}

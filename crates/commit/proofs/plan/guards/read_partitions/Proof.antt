@@ -3,12 +3,12 @@ use mathlib.Core.Path.{_≡_, refl, sym, _∙_}
 use mathlib.Core.List.{map}
 use Prim.Native.Nat.{_-_, _≤_, min}
 use native.Mathlib.Omega.{arith}
-use Rattle.types.specs.Limits.{readLimit}
-use Rattle.types.specs.Zero.{noRead}
+use Rattle.records.specs.Limits.{readLimit}
+use Rattle.records.specs.Zero.{noRead}
 use Rattle.rules.specs.Transaction.{readsOf}
-use Rattle.view.specs.First.{firstFrom, first-next, first-end}
-use Rattle.view.proofs.Lengths.{reads-long}
-use Rattle.view.specs.Marks.{markAll, mark-next}
+use Rattle.fields.specs.First.{firstFrom, first-next, first-end}
+use Rattle.fields.proofs.Lengths.{reads-long}
+use Rattle.fields.specs.Marks.{markAll, mark-next}
 use Rattle.commit.specs.Plan.Guards.{partitionRead}
 use borrow.Author.Needs.{needs}
 use Rattle.commit.proofs.plan.guards.read_partitions.Statement.{statement}

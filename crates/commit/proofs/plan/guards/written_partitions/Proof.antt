@@ -3,11 +3,11 @@ use mathlib.Core.Path.{_≡_, refl, sym, _∙_}
 use mathlib.Core.List.{map}
 use Prim.Native.Nat.{_-_, _≤_, min}
 use native.Mathlib.Omega.{arith}
-use Rattle.types.specs.Limits.{writeLimit}
-use Rattle.types.specs.Zero.{noWrite}
-use Rattle.view.specs.First.{firstFrom, first-next, first-end}
-use Rattle.view.proofs.Lengths.{writes-long}
-use Rattle.view.specs.Marks.{markAll, mark-next}
+use Rattle.records.specs.Limits.{writeLimit}
+use Rattle.records.specs.Zero.{noWrite}
+use Rattle.fields.specs.First.{firstFrom, first-next, first-end}
+use Rattle.fields.proofs.Lengths.{writes-long}
+use Rattle.fields.specs.Marks.{markAll, mark-next}
 use Rattle.commit.specs.Plan.Guards.{partitionWritten, noPartitions, writtenMarks}
 use borrow.Author.Needs.{needs}
 use Rattle.commit.proofs.plan.guards.written_partitions.Statement.{statement}

@@ -4,9 +4,9 @@ use Prim.Native.Nat.{_≤_, _-_, min}
 use native.Mathlib.Omega.{arith}
 use borrow.Author.Tests.{not-true, not-false}
 use lib.ListN.{length}
-use Rattle.types.specs.Limits.{writeLimit}
+use Rattle.records.specs.Limits.{writeLimit}
 use Rattle.rules.specs.Changes.{destinations, sources}
-use Rattle.view.specs.Lent.{atPlaces, flagsAtPlaces}
+use Rattle.fields.specs.Lent.{atPlaces, flagsAtPlaces}
 use Rattle.commit.specs.Plan.Moves.{codesOf, noStripes, changedMarks, movesOf, changesTo, changes-none, changes-to-few, next-same, next-new, changes-all}
 use borrow.Author.Needs.{needs}
 use Rattle.commit.proofs.plan.moves.index_changes.Statement.{statement}

@@ -2,9 +2,9 @@
 use mathlib.Core.Path.{_≡_, refl}
 use Prim.Native.Nat.{_-_, _≤_}
 use native.Mathlib.Omega.{arith}
-use Rattle.types.specs.Limits.{places}
-use Rattle.view.specs.Lent.{atPlaces}
-use Rattle.view.specs.Marks.{markAll}
+use Rattle.records.specs.Limits.{places}
+use Rattle.fields.specs.Lent.{atPlaces}
+use Rattle.fields.specs.Marks.{markAll}
 use Rattle.commit.specs.Plan.Own.{noSlots, ownFrom, ownMarks, own-end, own-free, own-not, own-here}
 use borrow.Author.Needs.{needs}
 use Rattle.commit.proofs.plan.own.own_marks.Statement.{statement}

@@ -4,9 +4,9 @@ use mathlib.Core.List.{map}
 use Prim.Native.Nat.{_-_, _≤_, min}
 use native.Mathlib.Omega.{arith}
 use lib.ListN.{length, take}
-use Rattle.types.specs.Limits.{places, writeLimit}
-use Rattle.types.specs.Zero.{noWrite}
-use Rattle.view.specs.First.{firstFrom, first-next, first-end}
+use Rattle.records.specs.Limits.{places, writeLimit}
+use Rattle.records.specs.Zero.{noWrite}
+use Rattle.fields.specs.First.{firstFrom, first-next, first-end}
 use Rattle.commit.specs.Plan.Own.{unmarkAll, newOf, unmark-next, unmark-high}
 use borrow.Author.Needs.{needs}
 use Rattle.commit.proofs.plan.own.recycled_marks.Statement.{statement}

@@ -5,7 +5,7 @@ use Prim.Native.Nat.{_≤_, _-_, min}
 use native.Mathlib.Omega.{arith}
 use borrow.Author.Needs.{needs}
 use lib.ListN.{length, take, length-take}
-use Rattle.types.specs.Limits.{writeLimit}
+use Rattle.records.specs.Limits.{writeLimit}
 use Rattle.rules.specs.Lists.{all}
 use Rattle.commit.specs.Plan.Plain.{plain}
 use Rattle.journal.specs.Pushing.{Pushing, pushing-start, pushing-end}

@@ -1,5 +1,5 @@
 -- `plan_of` meets its contract, part by part.
-use Rattle.view.specs.Lent.{atPlaces, flagsAtPlaces}
+use Rattle.fields.specs.Lent.{atPlaces, flagsAtPlaces}
 use Rattle.commit.specs.Plan.Planned.{plan-from}
 use borrow.Author.Needs.{needs}
 use Rattle.commit.proofs.plan.run.plan_of.Statement.{statement}

@@ -1,0 +1,23 @@
+-- Laws that every crate above shares.
+-- tests
+pub mod Cases
+pub mod Rearranged
+-- lists, and tests of lists
+pub mod Members
+pub mod AllOf
+pub mod Rising
+pub mod EachTwo
+pub mod Blanks
+pub mod Places
+-- lists laid out in arrays
+pub mod LaidOut
+pub mod LaidOutActive
+pub mod HeadPostings
+-- chains and the walk
+pub mod Chain
+pub mod Walk
+pub mod Sound
+pub mod Chained
+pub mod Check
+-- the tests of admission, taken apart
+pub mod TestParts

@@ -1,0 +1,107 @@
+-- Lookup's candidates and the rows that it finds: told by their members.
+use mathlib.Core.Path.{_≡_, refl, sym, _∙_}
+use mathlib.Core.Bool.{Bool, true, false, _||_}
+use mathlib.Core.List.{List, [], _∷_, _++_, map}
+use mathlib.Core.Logic.{_↔_}
+use Prim.Native.Nat.{ℕ, suc, _<_}
+use native.Mathlib.Omega.{arith}
+use lib.Dec.{eqb, leb}
+use borrow.Author.Tests.{eqb-true, eqb-false, eq-eqb, ne-eqb, ltb-true, leb-true}
+use Rattle.records.specs.Limits.{rows}
+use Rattle.rules.specs.Lists.{all, any, memb, those, rising}
+use Rattle.rules.specs.Types.{Store, Tx, Write, Key}
+use Rattle.rules.specs.Store.{posting, keyOf, rowOf, valueAt, sameValue, postingsOf}
+use Rattle.rules.specs.Transaction.{writesOf}
+use Rattle.rules.specs.Chains.{walk}
+use Rattle.rules.specs.Fit.{writeFit, fit}
+use Rattle.rules.specs.Calls.{readPtr, candidates, matching}
+use Rattle.basic_laws.specs.Cases.{by, clash, iff, and-true, and-both, or-true}
+use Rattle.basic_laws.specs.Members.{mem-those}
+use Rattle.basic_laws.specs.TestParts.{write-parts, fit-parts}
+use Rattle.posting_laws.specs.HeadsTold.{same-value, value-same}
+use Rattle.posting_laws.specs.Posted.{mem-append}
+use Rattle.basic_laws.specs.Rising.{eqb-sym, rising-less, mem-inOrder, rising-inOrder}
+use Rattle.call_laws.specs.ReadLaws.{ofRow}
+
+-- some of a rising list rise
+rising-those : (lo : ℕ) (f : ℕ → Bool) (l : List ℕ) → rising lo l ≡ true → rising lo (those f l) ≡ true
+rising-those lo f [] h = refl
+rising-those lo f (x ∷ l) h =
+    let a = and-true (leb lo x) (rising (suc x) l) h in
+    let r = rising-those (suc x) f l (a .1) in
+    by (f x)
+    (λ e. rw (e, a .0) r)
+    (λ e. rw e (rising-less lo (suc x) (those f l) (omega (arith, leb-true lo x (a .0))) r))
+
+-- the rows of the key's postings are those with a posting of the key
+posting-one : (k r c : ℕ) → r < rows → keyOf c ≡ k → eqb r (rowOf c) ≡ eqb (posting k r) c
+posting-one k r c lt e = iff (eqb r (rowOf c)) (eqb (posting k r) c)
+    (λ h. eq-eqb (posting k r) c (omega (arith, eqb-true r (rowOf c) h)))
+    (λ h. eq-eqb r (rowOf c) (omega (arith, eqb-true (posting k r) c h)))
+
+-- (of a whole list)
+mem-postings : (k r : ℕ) → r < rows → (l : List ℕ) → memb r (map rowOf (those (λ c. eqb (keyOf c) k) l)) ≡ memb (posting k r) l
+mem-postings k r lt [] = refl
+mem-postings k r lt (c ∷ l) =
+    let i = mem-postings k r lt l in
+    by (eqb (keyOf c) k)
+    (λ e. rw (e, i, posting-one k r c lt (eqb-true (keyOf c) k e)))
+    (λ e. rw (e, i, ne-eqb (posting k r) c (λ q. eqb-false (keyOf c) k e (omega (arith, q, lt)))))
+
+-- rows of writes
+mem-rows : (r : ℕ) (ws : List Write) → memb r (map (λ w. w .row .0) ws) ≡ any (ofRow r) ws
+mem-rows r [] = refl
+mem-rows r (w ∷ ws) = rw (mem-rows r ws, eqb-sym r (w .row .0))
+
+-- every posting has a row below 64
+rows-below : (r : ℕ) (l : List ℕ) → memb r (map rowOf l) ≡ true → r < rows
+rows-below r [] m = clash {b = false} m refl
+rows-below r (c ∷ l) m = or-true (eqb r (rowOf c)) (memb r (map rowOf l)) m (λ e. omega (arith, eqb-true r (rowOf c) e)) (λ e. rows-below r l e)
+
+module _ (S : Store) (x : Tx) (k : ℕ) where
+  -- "rows from postings of the key and own writes"
+  pub candidate-is : (r : ℕ) → r < rows → memb r (candidates S x k) ≡ (memb (posting k r) (postingsOf S) || any (ofRow r) (writesOf x))
+  unfolding candidates
+  candidate-is r lt =
+      let keyed = map rowOf (those (λ c. eqb (keyOf c) k) (postingsOf S)) in
+      let written = map (λ w. w .row .0) (writesOf x) in
+      mem-inOrder (keyed ++ written) r ∙ mem-append keyed written r ∙ rw (mem-postings k r lt (postingsOf S), mem-rows r (writesOf x))
+
+  -- "rising"
+  pub candidates-rise : rising 0 (candidates S x k) ≡ true
+  unfolding candidates
+  candidates-rise = rising-inOrder (map rowOf (those (λ c. eqb (keyOf c) k) (postingsOf S)) ++ map (λ w. w .row .0) (writesOf x))
+
+  -- so do the rows found
+  pub matching-rise : rising 0 (matching S x k) ≡ true
+  unfolding matching
+  matching-rise = rising-those 0 (λ r. sameValue (valueAt (S .key) (S .has) (readPtr S x r)) (Key k)) (candidates S x k) candidates-rise
+
+  -- "kept if the read value is the key"
+  pub matching-is : (r : ℕ) → (memb r (matching S x k) ≡ true) ↔ ((memb r (candidates S x k) ≡ true) × (valueAt (S .key) (S .has) (readPtr S x r) ≡ Key k))
+  unfolding matching
+  matching-is r =
+      let v = valueAt (S .key) (S .has) (readPtr S x r) in
+      let e = mem-those (λ q. sameValue (valueAt (S .key) (S .has) (readPtr S x q)) (Key k)) (candidates S x k) r in
+      (λ m. let a = and-true (memb r (candidates S x k)) (sameValue v (Key k)) (sym e ∙ m) in (a .0, same-value v (Key k) (a .1)), λ a. e ∙ and-both (memb r (candidates S x k)) (sameValue v (Key k)) (a .0) (rw (a .1) (value-same (Key k))))
+
+  module _ (f : fit S x ≡ true) where
+    -- the rows of fit writes are below 64
+    own-below : (r : ℕ) (ws : List Write) → all (writeFit (S .xmin) (S .next) (walk (S .heads) (S .next) .seen) (x .txid .0)) ws ≡ true → any (ofRow r) ws ≡ true → r < rows
+    own-below r [] h m = clash {b = false} m refl
+    own-below r (w ∷ ws) h m =
+        let g = writeFit (S .xmin) (S .next) (walk (S .heads) (S .next) .seen) (x .txid .0) in
+        let a = and-true (g w) (all g ws) h in
+        or-true (ofRow r w) (any (ofRow r) ws) m
+        (λ e. omega (arith, eqb-true (w .row .0) r e, ltb-true (w .row .0) rows (write-parts (S .xmin) (S .next) (walk (S .heads) (S .next) .seen) (x .txid .0) w (a .0) .row)))
+        (λ e. own-below r ws (a .1) e)
+
+    -- so every candidate is below 64
+    pub candidate-below : (r : ℕ) → memb r (candidates S x k) ≡ true → r < rows
+    unfolding candidates
+    candidate-below r m =
+        let keyed = map rowOf (those (λ c. eqb (keyOf c) k) (postingsOf S)) in
+        let written = map (λ w. w .row .0) (writesOf x) in
+        or-true (memb r keyed) (memb r written) (sym (mem-inOrder (keyed ++ written) r ∙ mem-append keyed written r) ∙ m)
+        (λ e. rows-below r (those (λ c. eqb (keyOf c) k) (postingsOf S)) e)
+        (λ e. own-below r (writesOf x) (fit-parts S x f .writes) (sym (mem-rows r (writesOf x)) ∙ e))

@@ -1,0 +1,238 @@
+-- Read: whose value it gives, and what it records.
+use mathlib.Core.Path.{_≡_, refl, sym, ap, _∙_}
+use mathlib.Core.Bool.{Bool, true, false, not}
+use mathlib.Core.List.{List, [], _∷_, _++_, map}
+use Prim.Native.Nat.{ℕ, _<_}
+use native.Mathlib.Omega.{arith}
+use lib.ListN.{length, getD}
+use lib.Dec.{eqb}
+use borrow.Author.Tests.{eqb-true, eqb-false, eq-eqb, ne-eqb, ltb-true, lt-ltb, not-true}
+use Rattle.records.specs.Limits.{rows, readLimit}
+use Rattle.records.specs.Zero.{noWrite, noRead}
+use Rattle.rules.specs.Lists.{all, any, memb, nonzero, firstOf}
+use Rattle.rules.specs.Types.{Store, Tx, Write, ReadRecord, Seen, Value, Absent}
+use Rattle.rules.specs.Store.{valueAt}
+use Rattle.rules.specs.Transaction.{writesOf, readsOf, sees, lastOwn, withReads}
+use Rattle.rules.specs.Chains.{walk}
+use Rattle.rules.specs.Fit.{fit, writeFit}
+use Rattle.rules.specs.Numbers.{numberOf}
+use Rattle.rules.specs.Calls.{visibleVersion, readPtr, recordRead, read}
+use Rattle.basic_laws.specs.Cases.{by, clash, and-true, or-true, or-false, or-neither, mem-here, mem-there}
+use Rattle.basic_laws.specs.Chain.{chain-below}
+use Rattle.basic_laws.specs.Chained.{chained-from}
+use Rattle.statements.specs.Sized.{Sized}
+use Rattle.basic_laws.specs.TestParts.{fit-parts, write-parts}
+use Rattle.basic_laws.specs.Rising.{unique}
+use Rattle.basic_laws.specs.LaidOut.{take-pad}
+use Rattle.basic_laws.specs.AllOf.{all-then}
+use Rattle.admitted_laws.specs.Repairable.{marks}
+use Rattle.admitted_laws.specs.Resting.{Rests}
+use Rattle.call_laws.specs.Refusals.{read-accepted}
+use Rattle.call_laws.specs.Passed.{read-passed}
+
+-- the first of a list that passes, and none before it
+pub record FirstIn (f : ℕ → Bool) (l : List ℕ) (p : ℕ) : Type 0 where
+  pub before : List ℕ
+  pub after : List ℕ
+  pub split : l ≡ before ++ p ∷ after
+  pub none : any f before ≡ false
+  pub passes : f p ≡ true
+
+-- a write of row r
+abbrev pub ofRow : ℕ → Write → Bool
+ofRow r w = eqb (w .row .0) r
+
+-- the last write of row r, and none after it
+pub record LastOf (r : ℕ) (ws : List Write) (w : Write) : Type 0 where
+  pub before : List Write
+  pub after : List Write
+  pub split : ws ≡ before ++ w ∷ after
+  pub row : w .row .0 ≡ r
+  pub none : any (ofRow r) after ≡ false
+
+-- the creator of slot p is visible
+abbrev pub visibleAt : Store → Tx → ℕ → Bool
+visibleAt S x p = sees x (getD (S .xmin) p 0)
+
+-- a read record
+abbrev pub readOf : ℕ → ℕ → ℕ → ReadRecord
+readOf r p t = record { row = record { 0 = r }; ptr = record { 0 = p }; xmin = record { 0 = t } }
+
+-- "Read: the last own write of the row, else the first chain version with a visible creator. A found version's pointer and xmin are recorded once
+-- per pointer; own writes and absent rows are not." The chain of row r is c, l the reads before; then the value and the reads afterwards
+pub data Reading (S : Store) (x : Tx) (r : ℕ) (c : List ℕ) (l : List ReadRecord) : Value → List ReadRecord → Type 0 where
+  own : (w : Write) → LastOf r (writesOf x) w → Reading S x r c l (valueAt (S .key) (S .has) (w .new .0)) l
+  found : (p : ℕ) → any (ofRow r) (writesOf x) ≡ false → FirstIn (visibleAt S x) c p → any (λ e. eqb (e .ptr .0) p) l ≡ false
+      → Reading S x r c l (valueAt (S .key) (S .has) p) (l ++ readOf r p (getD (S .xmin) p 0) ∷ [])
+  known : (p : ℕ) → any (ofRow r) (writesOf x) ≡ false → FirstIn (visibleAt S x) c p → any (λ e. eqb (e .ptr .0) p) l ≡ true
+      → Reading S x r c l (valueAt (S .key) (S .has) p) l
+  absent : any (ofRow r) (writesOf x) ≡ false → any (visibleAt S x) c ≡ false → Reading S x r c l Absent l
+
+-- a member in the middle
+pub mem-mid : (p : ℕ) (before after : List ℕ) → memb p (before ++ p ∷ after) ≡ true
+mem-mid p [] after = mem-here p after
+mem-mid p (x ∷ before) after = mem-there p x (before ++ p ∷ after) (mem-mid p before after)
+
+-- the definition finds the first
+pub first-of : (f : ℕ → Bool) (l : List ℕ) → any f l ≡ true → FirstIn f l (firstOf f l)
+first-of f [] h = clash {b = false} h refl
+first-of f (x ∷ l) h = by (f x)
+    (λ e. rw e (record { before = []; after = l; split = refl; none = refl; passes = e }))
+    (λ e. let r = first-of f l (rw e at h) in
+    rw e (record { before = x ∷ r .before; after = r .after; split = ap (λ (m : List ℕ). x ∷ m) (r .split); none = or-neither (f x) (any f (r .before)) e (r .none); passes = r .passes }))
+
+-- or none
+pub first-none : (f : ℕ → Bool) (l : List ℕ) → any f l ≡ false → firstOf f l ≡ 0
+first-none f [] h = refl
+first-none f (x ∷ l) h = let o = or-false (f x) (any f l) h in rw (o .0, first-none f l (o .1))
+
+-- (a number that is not 0, by another test)
+nonzero-ne : (n : ℕ) → nonzero n ≡ true → eqb n 0 ≡ false
+nonzero-ne n h = ne-eqb n 0 (λ e. omega (arith, e, ltb-true 0 n h))
+
+-- and the last own write; new pointers are not 0
+abbrev pub taken : Write → Bool
+taken w = nonzero (w .new .0)
+
+-- there is none
+pub last-none : (r : ℕ) (ws : List Write) → any (ofRow r) ws ≡ false → lastOwn r ws ≡ noWrite
+last-none r [] h = refl
+last-none r (w ∷ ws) h = let o = or-false (ofRow r w) (any (ofRow r) ws) h in rw (last-none r ws (o .1), o .0)
+
+-- or the last one
+pub last-of : (r : ℕ) (ws : List Write) → all taken ws ≡ true → any (ofRow r) ws ≡ true → LastOf r ws (lastOwn r ws) × (taken (lastOwn r ws) ≡ true)
+last-of r [] h k = clash {b = false} k refl
+last-of r (w ∷ ws) h k =
+    let a = and-true (taken w) (all taken ws) h in
+    by (any (ofRow r) ws)
+    (λ e. let i = last-of r ws (a .1) e in
+    rw (nonzero-ne (lastOwn r ws .new .0) (i .1))
+    (record { before = w ∷ i .0 .before; after = i .0 .after; split = ap (λ (m : List Write). w ∷ m) (i .0 .split); row = i .0 .row; none = i .0 .none }, i .1))
+    (λ e. or-true (ofRow r w) (any (ofRow r) ws) k
+    (λ o. rw (last-none r ws e, o) (record { before = []; after = ws; split = refl; row = eqb-true (w .row .0) r o; none = e }, a .0))
+    (λ o. clash o e))
+
+-- there is one first and one last
+first-is : (f : ℕ → Bool) (before : List ℕ) (p : ℕ) (after : List ℕ) → any f before ≡ false → f p ≡ true → firstOf f (before ++ p ∷ after) ≡ p
+first-is f [] p after n h = rw h
+first-is f (x ∷ before) p after n h = let o = or-false (f x) (any f before) n in rw (o .0) (first-is f before p after (o .1) h)
+
+-- (of writes)
+last-is : (r : ℕ) (before : List Write) (w : Write) (after : List Write) → all taken (before ++ w ∷ after) ≡ true → w .row .0 ≡ r → any (ofRow r) after ≡ false
+    → (lastOwn r (before ++ w ∷ after) ≡ w) × (taken w ≡ true)
+last-is r [] w after h e n = (rw (last-none r after n, eq-eqb (w .row .0) r e), and-true (taken w) (all taken after) h .0)
+last-is r (v ∷ before) w after h e n =
+    let i = last-is r before w after (and-true (taken v) (all taken (before ++ w ∷ after)) h .1) e n in
+    (rw (i .0, nonzero-ne (w .new .0) (i .1)), i .1)
+
+module _ (S : Store) (x : Tx) (L : ℕ → List ℕ) (z : Sized S) (R : Rests S L) (f : fit S x ≡ true) where
+  -- the writes of a fit transaction have their slots
+  pub writes-taken : all taken (writesOf x) ≡ true
+  writes-taken = all-then (writeFit (S .xmin) (S .next) (walk (S .heads) (S .next) .seen) (x .txid .0)) taken
+      (λ w h. let n = w .new .0 in
+      by (eqb n 0)
+      (λ e. clash (rw (eqb-true n 0 e) at (write-parts (S .xmin) (S .next) (walk (S .heads) (S .next) .seen) (x .txid .0) w h .taken)) (rw (R .mends .slots .first)))
+      (λ e. lt-ltb 0 n (omega (arith, eqb-false n 0 e))))
+      (writesOf x) (fit-parts S x f .writes)
+
+  -- place 0 has no value
+  pub no-value : valueAt (S .key) (S .has) 0 ≡ Absent
+  no-value = rw (R .mends .slots .free 0 (R .mends .slots .first) .empty)
+
+  -- the pointer that is read: the last own write's, else the first visible version's
+  own-ptr : (r : ℕ) → any (ofRow r) (writesOf x) ≡ true → LastOf r (writesOf x) (lastOwn r (writesOf x)) × (eqb (lastOwn r (writesOf x) .new .0) 0 ≡ false)
+  own-ptr r e =
+      let o = last-of r (writesOf x) writes-taken e in
+      (o .0, nonzero-ne (lastOwn r (writesOf x) .new .0) (o .1))
+
+  -- an own write is read
+  ptr-own : (r : ℕ) → any (ofRow r) (writesOf x) ≡ true → readPtr S x r ≡ lastOwn r (writesOf x) .new .0
+  unfolding readPtr
+  ptr-own r e = rw (own-ptr r e .1)
+
+  -- else the first visible version is
+  ptr-else : (r : ℕ) → r < rows → any (ofRow r) (writesOf x) ≡ false → readPtr S x r ≡ firstOf (visibleAt S x) (L r)
+  unfolding readPtr visibleVersion
+  ptr-else r lt e = rw (last-none r (writesOf x) e, chained-from (S .heads) (S .next) (walk (S .heads) (S .next) .seen) L (marks S L z (R .mends)) r (omega (arith, z .heads)))
+
+  -- a version found on a chain is no null pointer
+  found-some : (r p : ℕ) → r < rows → FirstIn (visibleAt S x) (L r) p → eqb p 0 ≡ false
+  found-some r p lt F =
+      let in-rows : r < length (S .heads) = omega (arith, z .heads) in
+      let b = chain-below (S .next) (getD (S .heads) r 0) (L r) p (R .mends .stands .chains .chain r in-rows) (rw (F .split) (mem-mid p (F .before) (F .after))) in
+      ne-eqb p 0 (λ e. omega (arith, e, b .0))
+
+  -- what read gives and records is that
+  pub reading : (r : ℕ) (l : List ReadRecord) → r < rows → Reading S x r (L r) l (valueAt (S .key) (S .has) (readPtr S x r)) (recordRead S x r l)
+  unfolding recordRead
+  reading r l lt =
+      let v = visibleAt S x in
+      by (any (ofRow r) (writesOf x))
+      (λ e. let o = own-ptr r e in rw (ptr-own r e, o .1) (own (lastOwn r (writesOf x)) (o .0)))
+      (λ e. rw (ptr-else r lt e, last-none r (writesOf x) e)
+      (by (any v (L r))
+      (λ s. let F = first-of v (L r) s in
+      let p = firstOf v (L r) in
+      by (any (λ q. eqb (q .ptr .0) p) l)
+      (λ k. rw (found-some r p lt F, k) (known p e F k))
+      (λ k. rw (found-some r p lt F, k) (found p e F k)))
+      (λ s. rw (first-none v (L r) s, no-value) (absent e s))))
+
+  -- the pointer, from what a reading says
+  ptr-last : (r : ℕ) (w : Write) → lastOwn r (writesOf x) ≡ w → taken w ≡ true → readPtr S x r ≡ w .new .0
+  unfolding readPtr
+  ptr-last r w e t = rw (e, nonzero-ne (w .new .0) t)
+
+  ptr-first : (r p : ℕ) → r < rows → any (ofRow r) (writesOf x) ≡ false → FirstIn (visibleAt S x) (L r) p → readPtr S x r ≡ p
+  ptr-first r p lt e F = ptr-else r lt e ∙ rw (F .split) (first-is (visibleAt S x) (F .before) p (F .after) (F .none) (F .passes))
+
+  -- and nothing else is: a reading has one value and one list of reads
+  pub reading-one : (r : ℕ) (l m : List ReadRecord) (v : Value) → r < rows → Reading S x r (L r) l v m → (v ≡ valueAt (S .key) (S .has) (readPtr S x r)) × (m ≡ recordRead S x r l)
+  unfolding recordRead
+  reading-one r l m v lt (own w o) =
+      let i = last-is r (o .before) w (o .after) (rw (o .split) at writes-taken) (o .row) (o .none) in
+      let e : lastOwn r (writesOf x) ≡ w = rw (o .split) (i .0) in
+      let p = ptr-last r w e (i .1) in
+      (rw p, rw (p, e, nonzero-ne (w .new .0) (i .1)))
+  reading-one r l m v lt (found p e F k) = let q = ptr-first r p lt e F in (rw q, rw (q, last-none r (writesOf x) e, found-some r p lt F, k))
+  reading-one r l m v lt (known p e F k) = let q = ptr-first r p lt e F in (rw q, rw (q, last-none r (writesOf x) e, found-some r p lt F, k))
+  reading-one r l m v lt (absent e s) = (rw (ptr-else r lt e, first-none (visibleAt S x) (L r) s) (sym no-value), rw (ptr-else r lt e, first-none (visibleAt S x) (L r) s))
+
+-- an accepted read gives that value and those reads, and changes nothing else
+pub read-gives : (S : Store) (x : Tx) (L : ℕ → List ℕ) → Sized S → Rests S L → (r : ℕ) → numberOf (read S x r .refusal) ≡ 0
+    → (l : List ReadRecord) × Reading S x r (L r) (readsOf x) (read S x r .value) l × (read S x r .tx ≡ withReads l x) × (readsOf (read S x r .tx) ≡ l)
+read-gives S x L z R r h =
+    let P = read-passed S x r h in
+    let l = recordRead S x r (readsOf x) in
+    let a = read-accepted S x r h in (
+      l,
+      rw a (reading S x L z R (P .first .fits) r (readsOf x) (P .row)),
+      ap (λ (s : Seen). s .tx) a,
+      rw a (take-pad readLimit noRead l (P .room)),
+    )
+
+-- "recorded once per pointer": where no pointer stood twice, none does
+abbrev pub pointers : List ReadRecord → List ℕ
+pointers l = map (λ e. e .ptr .0) l
+
+-- a number that is not among the pointers, nor the next
+absent-more : (y : ℕ) (l : List ReadRecord) (e : ReadRecord) → memb y (pointers l) ≡ false → eqb y (e .ptr .0) ≡ false → memb y (pointers (l ++ e ∷ [])) ≡ false
+absent-more y [] e m n = rw n
+absent-more y (q ∷ l) e m n =
+    let o = or-false (eqb y (q .ptr .0)) (memb y (pointers l)) m in
+    or-neither (eqb y (q .ptr .0)) (memb y (pointers (l ++ e ∷ []))) (o .0) (absent-more y l e (o .1) n)
+
+-- one read more, of a new pointer
+unique-more : (l : List ReadRecord) (e : ReadRecord) → any (λ q. eqb (q .ptr .0) (e .ptr .0)) l ≡ false → unique (pointers l) ≡ true → unique (pointers (l ++ e ∷ [])) ≡ true
+unique-more [] e n u = refl
+unique-more (q ∷ l) e n u =
+    let o = or-false (eqb (q .ptr .0) (e .ptr .0)) (any (λ d. eqb (d .ptr .0) (e .ptr .0)) l) n in
+    let a = and-true (not (memb (q .ptr .0) (pointers l))) (unique (pointers l)) u in
+    rw (absent-more (q .ptr .0) l e (not-true (memb (q .ptr .0) (pointers l)) (a .0)) (o .0)) (unique-more l e (o .1) (a .1))
+
+-- so a reading keeps them distinct
+pub once : {S : Store} {x : Tx} {r : ℕ} {c : List ℕ} {l m : List ReadRecord} {v : Value} → Reading S x r c l v m → unique (pointers l) ≡ true → unique (pointers m) ≡ true
+once (own w o) u = u
+once {S} {x} {r} {c} {l} (found p n f k) u = unique-more l (readOf r p (getD (S .xmin) p 0)) k u
+once (known p n f k) u = u
+once (absent n k) u = u

@@ -1,0 +1,185 @@
+-- A free slot taken for a version: the store still rests.
+use mathlib.Core.Path.{_≡_, refl, sym, _∙_}
+use mathlib.Core.Bool.{Bool, true, false}
+use mathlib.Core.List.{List, [], _∷_}
+use Prim.Native.Nat.{ℕ, zero, suc, _+_, _-_, _≤_, _<_}
+use native.Mathlib.Omega.{arith}
+use lib.ListN.{length, getD, set, drop, length-set, length-drop}
+use lib.Seq.{getD-set-same, getD-set-other, getD-drop}
+use lib.Dec.{eqb}
+use borrow.Author.Tests.{eqb-true, eqb-false}
+use Rattle.records.specs.Limits.{slots}
+use Rattle.rules.specs.Lists.{memb, firstZero}
+use Rattle.rules.specs.Types.{Store, Value, Absent, Key}
+use Rattle.rules.specs.Store.{activeTxids}
+use Rattle.rules.specs.Admitted.{finished}
+use Rattle.rules.specs.Puts.{takeSlot, applyAll}
+use Rattle.rules.specs.Calls.{lowestFree}
+use Rattle.basic_laws.specs.Cases.{by, clash}
+use Rattle.statements.specs.Sized.{Sized}
+use Rattle.admitted_laws.specs.Repairable.{SlotForm, Off, OffForm}
+use Rattle.recovery_laws.specs.Start.{txid-positive, txid-unfinished}
+use Rattle.recovery_laws.specs.Sizes.{sized-all}
+use Rattle.admitted_laws.specs.Resting.{Rests}
+use Rattle.call_laws.specs.Near.{Alike, chains-near, postings-near, led-near, versions-near, created-near, ended-near}
+use Rattle.call_laws.specs.Keeps.{same-postings, same-posted}
+
+-- nonzero numbers before a place, and one more in front
+up : (x : ℕ) (l : List ℕ) (i : ℕ) → 0 < x → ((j : ℕ) → j < i → 0 < getD l j 0) → (j : ℕ) → j < suc i → 0 < getD (x ∷ l) j 0
+up x l i n h zero lt = n
+up x l i n h (suc j) lt = h j (omega arith)
+
+-- the first 0 of an array, counted from a number past 0
+first-zero : (k : ℕ) (l : List ℕ) → (firstZero (suc k) l ≡ 0 → ⊥)
+    → (i : ℕ) × (firstZero (suc k) l ≡ suc k + i) × (i < length l) × (getD l i 0 ≡ 0) × ((j : ℕ) → j < i → 0 < getD l j 0)
+first-zero k [] n = absurd (n refl)
+first-zero k (x ∷ l) n = by (eqb x 0)
+    (λ e. (zero, rw e (omega arith), omega arith, eqb-true x 0 e, λ j lt. absurd (omega arith)))
+    (λ e. let r = first-zero (suc k) l (λ q. n (rw e q)) in
+    (suc (r .0), rw e (omega (arith, r .1)), omega (arith, r .2), r .3, up x l (r .0) (omega (arith, eqb-false x 0 e)) (r .4)))
+
+-- "the lowest free slot"
+pub record Lowest (xmin : List ℕ) (p : ℕ) : Type 0 where
+  pub some : 0 < p
+  pub within : p < length xmin
+  pub free : getD xmin p 0 ≡ 0
+  pub least : (q : ℕ) → 0 < q → q < p → 0 < getD xmin q 0
+
+-- the definition finds it
+pub lowest : (xmin : List ℕ) → (lowestFree xmin ≡ 0 → ⊥) → Lowest xmin (lowestFree xmin)
+unfolding lowestFree
+lowest xmin n =
+    let r = first-zero 0 (drop 1 xmin) n in
+    let at : (i : ℕ) → getD (drop 1 xmin) i 0 ≡ getD xmin (1 + i) 0 = λ i. getD-drop 1 xmin i 0 in
+    rw (r .1) (record {
+      some = omega arith;
+      within = omega (arith, r .2, length-drop 1 xmin);
+      free = sym (at (r .0)) ∙ r .3;
+      least = λ q pos lt.
+          let e : 1 + (q - 1) ≡ q = omega arith in
+          rw (at (q - 1), e) at (r .4 (q - 1) (omega arith));
+    })
+
+-- the store with slot p taken for a version of t over the base q
+abbrev pub keyAt : ℕ → Value → List ℕ → List ℕ
+keyAt p Absent l = l
+keyAt p (Key k) l = set l p k
+
+abbrev pub hasAt : ℕ → Value → List Bool → List Bool
+hasAt p Absent l = l
+hasAt p (Key k) l = set l p true
+
+-- (the whole store)
+abbrev pub took : ℕ → ℕ → ℕ → Value → Store → Store
+took p t q v S = record { heads = S .heads; xmin = set (S .xmin) p t; xmax = S .xmax; next = set (S .next) p q; key = keyAt p v (S .key); has = hasAt p v (S .has); locked = S .locked; owner = S .owner; postings = S .postings; «posting_count» = S .«posting_count»; «stripe_guards» = S .«stripe_guards»; «partition_guards» = S .«partition_guards»; stamps = S .stamps; active = S .active; clock = S .clock; poisoned = S .poisoned; doomed = S .doomed; bound = S .bound }
+
+-- the puts of a write leave that store
+pub took-is : (p t q : ℕ) (v : Value) (S : Store) → applyAll (takeSlot p t q v) S ≡ took p t q v S
+took-is p t q Absent S = refl
+took-is p t q (Key k) S = refl
+
+-- other slots keep their values
+key-other : (p : ℕ) (v : Value) (l : List ℕ) (x : ℕ) → (x ≡ p → ⊥) → getD (keyAt p v l) x 0 ≡ getD l x 0
+key-other p Absent l x n = refl
+key-other p (Key k) l x n = getD-set-other l p x k 0 n
+
+has-other : (p : ℕ) (v : Value) (l : List Bool) (x : ℕ) → (x ≡ p → ⊥) → getD (hasAt p v l) x false ≡ getD l x false
+has-other p Absent l x n = refl
+has-other p (Key k) l x n = getD-set-other l p x true false n
+
+-- the taken slot's absent key is 0 where it was
+absent-at : (p : ℕ) (v : Value) (key : List ℕ) (has : List Bool) → p < length has → getD key p 0 ≡ 0 → getD (hasAt p v has) p false ≡ false → getD (keyAt p v key) p 0 ≡ 0
+absent-at p Absent key has lt e n = e
+absent-at p (Key k) key has lt e n = clash (getD-set-same has p true false lt) n
+
+module _ (S : Store) (L : ℕ → List ℕ) (z : Sized S) (R : Rests S L) (p t q : ℕ) (v : Value) (W : Lowest (S .xmin) p)
+    (a : memb t (activeTxids (S .active)) ≡ true) (le : q ≤ slots) where
+  abbrev T : Store
+  T = took p t q v S
+
+  abbrev f : ℕ → Bool
+  f = finished (S .active) (S .doomed)
+
+  -- a used slot is another one
+  other : (x : ℕ) → 0 < getD (S .xmin) x 0 → x ≡ p → ⊥
+  other x u e = omega (arith, rw e at u, W .free)
+
+  -- and so is one on a chain
+  away : (r x : ℕ) → r < length (S .heads) → memb x (L r) ≡ true → x ≡ p → ⊥
+  away r x lt m = other x (R .mends .stands .led r x lt m)
+
+  -- the sizes are the same
+  pub took-sized : Sized T
+  took-sized = rw (sym (took-is p t q v S)) (sized-all (takeSlot p t q v) S z)
+
+  -- at slot p, and elsewhere
+  xmin-here : getD (T .xmin) p 0 ≡ t
+  xmin-here = getD-set-same (S .xmin) p t 0 (W .within)
+
+  xmin-other : (x : ℕ) → (x ≡ p → ⊥) → getD (T .xmin) x 0 ≡ getD (S .xmin) x 0
+  xmin-other x n = getD-set-other (S .xmin) p x t 0 n
+
+  next-other : (x : ℕ) → (x ≡ p → ⊥) → getD (T .next) x 0 ≡ getD (S .next) x 0
+  next-other x n = getD-set-other (S .next) p x q 0 n
+
+  -- slots are in their form
+  took-slots : SlotForm (T .xmin) (T .xmax) (T .next) (T .key) (T .has) (T .locked) (T .owner)
+  took-slots =
+      let F = R .mends .slots in
+      record {
+        first = xmin-other 0 (λ e. omega (arith, e, W .some)) ∙ F .first;
+        free = λ x e. let n : x ≡ p → ⊥ = λ k. omega (arith, rw (k, xmin-here) at e, txid-positive S L z R t a) in
+            let o = F .free x (sym (xmin-other x n) ∙ e) in
+            record { unmarked = o .unmarked; unlinked = next-other x n ∙ o .unlinked; empty = has-other p v (S .has) x n ∙ o .empty; unlocked = o .unlocked; unowned = o .unowned };
+        absent = λ x e. by (eqb x p)
+            (λ k. let xp = eqb-true x p k in rw xp (absent-at p v (S .key) (S .has) (omega (arith, W .within, z .xmin, z .has)) (F .absent p (F .free p (W .free) .empty)) (rw xp at e)))
+            (λ k. let n = eqb-false x p k in key-other p v (S .key) x n ∙ F .absent x (sym (has-other p v (S .has) x n) ∙ e));
+      }
+
+  -- the versions on chains are as they were
+  alike : (r x : ℕ) → r < length (S .heads) → memb x (L r) ≡ true → Alike (S .xmin) (S .xmax) (T .xmin) (T .xmax) f f x
+  alike r x lt m = record { created = xmin-other x (away r x lt m); ended = refl; creator = refl; ender = refl }
+
+  -- a slot off every chain is of an unfinished txid, the new one too
+  took-off : (x : ℕ) → 0 < getD (T .xmin) x 0 → Off (S .heads) L x → OffForm (T .xmin) (T .xmax) (T .next) f x
+  took-off x u o = by (eqb x p)
+      (λ k. rw (eqb-true x p k) (record {
+        unfinished = rw xmin-here (txid-unfinished S L z R t a);
+        unmarked = R .mends .slots .free p (W .free) .unmarked;
+        within = rw (getD-set-same (S .next) p q 0 (omega (arith, W .within, z .xmin, z .next))) le;
+      }))
+      (λ k. let n = eqb-false x p k in
+      let s = R .mends .stands .off x (rw (xmin-other x n) at u) o in
+      record { unfinished = rw (xmin-other x n) (s .unfinished); unmarked = s .unmarked; within = rw (next-other x n) (s .within) })
+
+  -- the store rests with the same chains
+  pub took-rests : Rests T L
+  took-rests =
+      let M = R .mends in
+      let C = M .stands .chains in
+      record {
+        mends = record {
+          started = M .started;
+          slots = took-slots;
+          listed = M .listed;
+          below = λ x. by (eqb x p)
+              (λ k. rw (eqb-true x p k, xmin-here) (M .listed .past t a))
+              (λ k. rw (xmin-other x (eqb-false x p k)) (M .below x));
+          doom = M .doom;
+          stands = record {
+            chains = chains-near (S .heads) (S .next) L C (T .next) (length-set (S .next) p q) (λ r x lt m. next-other x (away r x lt m));
+            led = led-near S L R (T .xmin) (T .xmax) f alike;
+            versions = versions-near S L R (T .xmin) (T .xmax) f alike;
+            off = took-off;
+          };
+        };
+        stripes = R .stripes;
+        partitions = R .partitions;
+        posted = same-posted S T refl refl (R .posted);
+        created = created-near S L R (T .xmin) (T .xmax) f alike;
+        ended = ended-near S L R (T .xmin) (T .xmax) f alike;
+        undoomed = R .undoomed;
+        exact = λ n. same-postings S T refl refl ∙ R .exact n ∙ sym (postings-near (S .heads) (S .next) L C (S .key) (T .key) (S .has) (T .has)
+            (λ r x lt m. key-other p v (S .key) x (away r x lt m)) (λ r x lt m. has-other p v (S .has) x (away r x lt m))
+            (key-other p v (S .key) 0 (λ e. omega (arith, e, W .some))) (has-other p v (S .has) 0 (λ e. omega (arith, e, W .some))));
+      }

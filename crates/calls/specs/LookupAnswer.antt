@@ -1,0 +1,130 @@
+-- Lookup: why it refuses, and its answer.
+use mathlib.Core.Path.{_≡_, refl, sym, ap, _∙_}
+use mathlib.Core.Bool.{Bool, true, false}
+use mathlib.Core.List.{List, [], _∷_, map}
+use Prim.Native.Nat.{ℕ}
+use lib.ListN.{length, getD, replicate, length-replicate}
+use lib.Dec.{ltb}
+use Rattle.records.specs.Limits.{rows, readLimit}
+use Rattle.basic_laws.specs.Cases.{clash}
+use Rattle.rules.specs.Lists.{pad}
+use Rattle.rules.specs.Types.{Store, Tx, Found, ReadRecord, Refusal, ReadsFull, Open}
+use Rattle.rules.specs.Store.{stripeOf}
+use Rattle.rules.specs.Transaction.{readsOf, indexReadsOf, withReads, withIndexReads}
+use Rattle.rules.specs.Fit.{fit}
+use Rattle.rules.specs.Numbers.{Try, refuse, tries, isDone}
+use Rattle.rules.specs.Calls.{admitsHealthy, recordReads, recordStamp, candidates, matching, asRow, lookup}
+use Rattle.statements.specs.Sized.{Sized}
+use Rattle.fields.specs.Lent.{atRows, atPlaces, flagsAtPlaces, flagsAtRows, atPostings, atStripes, array-same}
+use Rattle.fields.specs.Marks.{mark-length}
+use Rattle.recording.specs.MarkedRows.{markedRows, noRows}
+use Rattle.recording.specs.CandidateTurns.{candidateMarks, candidateRows, candidates-marked, fit-rows}
+use Rattle.recording.specs.ReadList.{laid, readsFrom, reads-from}
+use Rattle.recording.specs.LookupTurns.{recordReadsOf, record-reads, matchingOf, matching-of}
+use Rattle.recording.specs.FoundRows.{rowList}
+use Rattle.recording.specs.StampList.{indexReadList, indexConflict, indexReadsFrom, index-reads-from}
+use Rattle.recording.specs.declared.reads.ReadList.{ReadList}
+use Rattle.recording.specs.declared.stamps.IndexReadList.{IndexReadList}
+use Rattle.recording.specs.declared.lookup.RowList.{RowList}
+use Rattle.admit.specs.Admission.{admitted}
+use Rattle.calls.specs.Refused.{unless, poisonedTries, found-healthy, both-done, admitted-both, choose, choose-done, choose-refused}
+use Rattle.calls.specs.LentWhole.{heads-whole, next-whole, xmin-whole, key-whole, has-whole, postings-whole, stamps-whole}
+
+abbrev pub lookupTests : Bool → List Try
+lookupTests over = refuse over (ReadsFull Open) ∷ []
+
+unfoldable pub lookupTries : Bool → Refusal
+lookupTries over = tries (lookupTests over)
+
+lookup-tries : (l : ReadList) (m : List ReadRecord) → l ≡ laid m → lookupTries (l .over) ≡ tries (lookupTests (ltb readLimit (length m)))
+unfolding lookupTries laid
+lookup-tries l m e = rw e
+
+-- where nothing is refused, the reads fit
+reads-fit : (over : Bool) → isDone (lookupTries over) ≡ true → over ≡ false
+unfolding lookupTries
+reads-fit true h = clash h refl
+reads-fit false h = refl
+
+-- the transaction afterwards, from the stamps of the store
+unfoldable pub looked : List ℕ → Tx → List ReadRecord → ℕ → Tx
+looked stamps x reads k =
+    let t = getD stamps (stripeOf k) 0 in
+    withIndexReads (recordStamp (stripeOf k) t (indexReadsOf x)) (indexConflict x t) (withReads reads x)
+
+-- as code makes it: the stamp, the index reads with it, the conflict, the reads
+pub looked-is : {t : ℕ} {b : Bool} {q : IndexReadList} {l : ReadList} {w y : Tx} (stamps : List ℕ) (x : Tx) (k : ℕ)
+    → t ≡ getD stamps (stripeOf k) 0
+    → q ≡ indexReadList (recordStamp (stripeOf k) t (indexReadsOf x))
+    → b ≡ indexConflict x t
+    → w ≡ readsFrom l x
+    → y ≡ indexReadsFrom q b w
+    → (m : List ReadRecord) → l ≡ laid m → l .over ≡ false → y ≡ looked stamps x m k
+unfolding looked
+looked-is {t} {b} {q} {l} {w} {y} stamps x k e f g r i m h over =
+    i ∙ index-reads-from q (recordStamp (stripeOf k) t (indexReadsOf x)) b w f ∙ rw (g, r ∙ reads-from l m x h over, e)
+
+-- the marked rows of a fit transaction are the candidates
+marks-long : (postings : List ℕ) (count : ℕ) (x : Tx) (k : ℕ) → length (candidateMarks postings count x k) ≡ rows
+unfolding candidateMarks noRows
+marks-long postings count x k = mark-length (candidateRows postings count x k) noRows ∙ length-replicate rows false
+
+rows-marked : (S : Store) (x : Tx) (k : ℕ) (marks : List Bool) → Sized S → fit S x ≡ true → marks ≡ candidateMarks (atPostings (S .postings)) (S .«posting_count») x k
+    → markedRows (flagsAtRows marks) ≡ candidates S x k
+rows-marked S x k marks z ok e =
+    let whole : marks ≡ candidateMarks (S .postings) (S .«posting_count») x k = rw (postings-whole S z) at e in
+    rw (whole, array-same rows false (candidateMarks (S .postings) (S .«posting_count») x k) (marks-long (S .postings) (S .«posting_count») x k))
+    (candidates-marked S x k (fit-rows S x ok))
+
+-- a row list is its rows and their number
+row-list : (q : RowList) (l : List ℕ) → q ≡ rowList l → (q .at ≡ pad rows (asRow 0) (map asRow l)) × (q .count ≡ length l)
+unfolding rowList
+row-list q l e = (ap (λ (p : RowList). p .at) e, ap (λ (p : RowList). p .count) e)
+
+module _ (S : Store) (x : Tx) (k : ℕ) where
+  abbrev reads-after : List ReadRecord
+  reads-after = recordReads S x (candidates S x k) (readsOf x)
+
+  abbrev lookupWhy : Refusal
+  lookupWhy = admitsHealthy S x (lookupTests (ltb readLimit (length reads-after)))
+
+  abbrev done : Refusal → Found
+  done w = record { refusal = w; rows = pad rows (asRow 0) (map asRow (matching S x k)); count = length (matching S x k); tx = looked (S .stamps) x reads-after k }
+
+  abbrev refused : Refusal → Found
+  refused w = record { refusal = w; rows = replicate rows (asRow 0); count = 0; tx = x }
+
+  answer : choose done refused lookupWhy ≡ lookup S x k
+  unfolding lookup choose looked indexConflict
+  answer = refl
+
+  -- as code finds it
+  module _ (z : Sized S) {marks : List Bool} {l : ReadList} {tried first why : Refusal}
+      (c : marks ≡ candidateMarks (atPostings (S .postings)) (S .«posting_count») x k)
+      (h : l ≡ laid (recordReadsOf (atRows (S .heads)) (atPlaces (S .next)) (atPlaces (S .xmin)) x (markedRows (flagsAtRows marks)) (readsOf x)))
+      (a : tried ≡ admitted S x true)
+      (e : first ≡ unless tried (poisonedTries (S .poisoned)))
+      (f : why ≡ unless first (lookupTries (l .over))) where
+    list-is : fit S x ≡ true → l ≡ laid reads-after
+    list-is ok = (rw (heads-whole S z, next-whole S z, xmin-whole S z, rows-marked S x k marks z ok c) at h) ∙ ap laid (sym (record-reads S x (candidates S x k) (readsOf x)))
+
+    why-is : why ≡ lookupWhy
+    why-is = found-healthy S x (lookupTests (ltb readLimit (length reads-after))) tried first why (lookupTries (l .over)) a e f (λ ok. lookup-tries l reads-after (list-is ok))
+
+    pub lookup-refused : isDone why ≡ false → record { refusal = why; rows = replicate rows (asRow 0); count = 0; tx = x } ≡ lookup S x k
+    lookup-refused d = choose-refused done refused why _ why-is d ∙ answer
+
+    pub lookup-done : {q : RowList} {y : Tx} → isDone why ≡ true
+        → q ≡ rowList (matchingOf (atRows (S .heads)) (atPlaces (S .next)) (atPlaces (S .xmin)) (atPlaces (S .key)) (flagsAtPlaces (S .has)) x k (markedRows (flagsAtRows marks)))
+        → ((m : List ReadRecord) → l ≡ laid m → l .over ≡ false → y ≡ looked (atStripes (S .stamps)) x m k)
+        → record { refusal = why; rows = q .at; count = q .count; tx = y } ≡ lookup S x k
+    lookup-done {q} {y} d u w =
+        let ok = admitted-both S x _ (sym (ap isDone why-is) ∙ d) .1 in
+        let found : q ≡ rowList (matching S x k) =
+        (rw (heads-whole S z, next-whole S z, xmin-whole S z, key-whole S z, has-whole S z, rows-marked S x k marks z ok c) at u) ∙ ap rowList (sym (matching-of S x k)) in
+        let parts = row-list q (matching S x k) found in
+        let tx-is : y ≡ looked (S .stamps) x reads-after k =
+        rw (stamps-whole S z) at (w reads-after (list-is ok) (reads-fit (l .over) (both-done why first (lookupTries (l .over)) f d .1))) in
+        (λ i. record { refusal = why; rows = parts .0 i; count = parts .1 i; tx = tx-is i })
+        ∙ choose-done done refused why _ why-is d
+        ∙ answer

@@ -1,0 +1,51 @@
+-- `index_read_conflict` meets its contract: a stamp differs if one does from the present place on.
+use borrow.Author.Tests.{eq-eqb, ne-eqb}
+use Rattle.records.specs.Limits.{indexReadLimit}
+use Rattle.records.specs.Zero.{noIndexRead}
+use Rattle.rules.specs.Lists.{any}
+use Rattle.rules.specs.Tests.{indexReadConflict}
+use Rattle.fields.specs.Lent.{atStripes}
+use Rattle.fields.specs.First.{firstFrom, first-next, first-end, any-first, any-rest}
+use Rattle.commit_tests.specs.Conflicts.{stampMoved, index-conflict-set, index-read-of}
+use Rattle.fields.proofs.Lengths.{index-reads-long}
+use mathlib.Core.Path.{_≡_, sym, ap, _∙_}
+use Prim.Native.Nat.{_-_, _≤_, min}
+use native.Mathlib.Omega.{arith}
+use borrow.Author.Needs.{needs}
+use Rattle.commit_tests.proofs.conflicts.index_read_conflict.Statement.{statement}
+use Rattle.commit_tests.proofs.conflicts.index_read_conflict.Tie as tie
+
+abbrev Inv-loop : tie.InvT-loop
+Inv-loop stamps x n i₀ i = (i ≤ n) × (n ≡ min (x .«index_read_count») indexReadLimit) × (any (stampMoved (atStripes stamps)) (firstFrom (x .«index_read_count») (x .«index_reads») i) ≡ indexReadConflict (atStripes stamps) x)
+
+abbrev μ-loop : tie.MeasureT-loop
+μ-loop stamps x n i₀ i = n - i
+
+returns : tie.Need-returns Inv-loop μ-loop
+returns c = index-conflict-set _ _ (c .if1 .taken)
+
+loop-holds : tie.Need-loop-holds Inv-loop μ-loop
+unfolding firstFrom
+loop-holds c = (omega arith, omega arith, index-read-of _ _ (c .before .if1 .left))
+
+returns-2 : tie.Need-returns-2 Inv-loop μ-loop
+unfolding stampMoved
+returns-2 c = let x = c .before .before .before .before .before .before .before .before .before .args .t2 in
+    let long = index-reads-long x (c .before .before .before .before .before .before .before .before .before .good .1 .0) in
+    sym (any-first _ _ _ _ (first-next (x .«index_read_count») (x .«index_reads») _ noIndexRead (omega arith)) (rw (← c .before .before .before .stamp-at .ensures, ne-eqb _ _ (c .if2 .taken)))) ∙ c .before .before .before .before .before .before .loop .inv .2
+
+loop-again : tie.Need-loop-again Inv-loop μ-loop
+unfolding stampMoved
+loop-again c = let x = c .before .before .before .before .before .before .before .before .before .args .t2 in
+    let long = index-reads-long x (c .before .before .before .before .before .before .before .before .before .good .1 .0) in
+    (omega arith, omega arith, sym (any-rest _ _ _ _ (first-next (x .«index_read_count») (x .«index_reads») _ noIndexRead (omega arith)) (rw (← c .before .before .before .stamp-at .ensures, eq-eqb _ _ (c .if2 .left)))) ∙ c .before .before .before .before .before .before .loop .inv .2)
+
+returns-3 : tie.Need-returns-3 Inv-loop μ-loop
+returns-3 c = let x = c .before .before .before .before .args .t2 in
+    let long = index-reads-long x (c .before .before .before .before .good .1 .0) in
+    ap (any _) (sym (first-end (x .«index_read_count») (x .«index_reads») _ (omega arith))) ∙ c .before .loop .inv .2
+
+pub index-read-conflict-spec : {M : Type 1} → statement M
+index-read-conflict-spec =
+    tie.close (tie.spec Inv-loop μ-loop returns (λ c κs. search needs) loop-holds (λ c. search needs) (λ c. search needs) (λ c κs. search needs)
+    returns-2 (λ c. search needs) (λ c. search needs) loop-again returns-3)

@@ -1,0 +1,3 @@
+pub mod Striking
+pub mod Conflicts
+pub mod FinalTurns

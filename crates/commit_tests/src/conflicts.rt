@@ -1,0 +1,140 @@
+// The four tests of commit, each to the first yes.
+
+ghost use mathlib.Core.Path.{_≡_};
+ghost use lib.ListN.{take};
+ghost use Rattle.rules.specs.Tests.{indexReadConflict, serializationConflict, writeBaseConflict};
+ghost use Rattle.fields.specs.Lent.{atRows, atPlaces, flagsAtPlaces, atActive, atStripes};
+ghost use Rattle.commit_tests.specs.Conflicts.{rowLockConflictOf, readConflictOf};
+use super::finals::unwritten_from;
+use records::ReadRecord;
+use records::RowId;
+use records::SlotPtr;
+use records::Store;
+use records::Tx;
+use records::Txid;
+use fields::lent::clipped;
+use fields::lent::head_of;
+use fields::lent::stamp_at;
+use fields::lent::txid_at;
+use fields::locks::locked_by_another;
+use fields::txids::in_snapshot;
+
+// 11: index_conflict is set or a recorded stamp differs.
+pub fn index_read_conflict(stamps: &[u64; Store::STRIPES], x: Tx) -> bool
+    ensures { λ r. ⌜ r ≡ indexReadConflict (atStripes (now (stamps .entry))) x ⌝ }
+{
+    if x.index_conflict {
+        return true;
+    }
+    let n = clipped(x.index_read_count, Tx::INDEX_READS);
+    let mut i: usize = 0;
+    while i < n {
+        let e = x.index_reads[i];
+        let now = stamp_at(stamps, e.stripe);
+        if now.0 != e.stamp.0 {
+            return true;
+        }
+        i += 1;
+    }
+    false
+}
+
+// 12: a written row's head has a live lock of another.
+pub fn has_row_lock_conflict<'a>(
+    heads: &'a [u32; RowId::ROWS],
+    locked: &'a [bool; SlotPtr::PLACES],
+    owner: &'a [u64; SlotPtr::PLACES],
+    active: &'a [u64; Txid::ACTIVE],
+    x: Tx,
+) -> bool
+    ensures { λ r. ⌜ r ≡ rowLockConflictOf (atRows (now (heads .entry))) (flagsAtPlaces (now (locked .entry))) (atPlaces (now (owner .entry))) (atActive (now (active .entry))) x ⌝ }
+{
+    let n = clipped(x.write_count, Tx::WRITES);
+    let mut i: usize = 0;
+    while i < n {
+        let w = x.writes[i];
+        let head = head_of(heads, w.row);
+        if locked_by_another(locked, owner, active, x.txid, head) {
+            return true;
+        }
+        i += 1;
+    }
+    false
+}
+
+// One read: a changed xmin conflicts first; xmax 0 or own is none; xmax at or above snapshot_xmax, or in the snapshot, conflicts.
+fn read_conflict<'a>(
+    xmin: &'a [u64; SlotPtr::PLACES],
+    xmax: &'a [u64; SlotPtr::PLACES],
+    snapshot: &'a [u64; Txid::ACTIVE],
+    count: usize,
+    me: Txid,
+    end: Txid,
+    e: ReadRecord,
+) -> bool
+    ensures { λ r. ⌜ r ≡ readConflictOf (atPlaces (now (xmin .entry))) (atPlaces (now (xmax .entry))) (take count (atActive (now (snapshot .entry)))) (me .0) (end .0) e ⌝ }
+{
+    let creator = txid_at(xmin, e.ptr);
+    if creator.0 != e.xmin.0 {
+        return true;
+    }
+    let ender = txid_at(xmax, e.ptr);
+    if ender.0 == 0 {
+        return false;
+    }
+    if ender.0 == me.0 {
+        return false;
+    }
+    if end.0 <= ender.0 {
+        return true;
+    }
+    in_snapshot(snapshot, count, ender)
+}
+
+// 13: a read conflicts.
+pub fn has_serialization_conflict<'a>(
+    xmin: &'a [u64; SlotPtr::PLACES],
+    xmax: &'a [u64; SlotPtr::PLACES],
+    x: Tx,
+) -> bool
+    ensures { λ r. ⌜ r ≡ serializationConflict (atPlaces (now (xmin .entry))) (atPlaces (now (xmax .entry))) x ⌝ }
+{
+    let n = clipped(x.read_count, Tx::READS);
+    let mut i: usize = 0;
+    while i < n {
+        let e = x.reads[i];
+        if read_conflict(
+            xmin,
+            xmax,
+            &x.snapshot,
+            x.snapshot_count,
+            x.txid,
+            x.snapshot_xmax,
+            e,
+        ) {
+            return true;
+        }
+        i += 1;
+    }
+    false
+}
+
+// 14: a final write's base is not the head.
+pub fn has_write_base_conflict(heads: &[u32; RowId::ROWS], x: Tx) -> bool
+    ensures { λ r. ⌜ r ≡ writeBaseConflict (atRows (now (heads .entry))) x ⌝ }
+{
+    let n = clipped(x.write_count, Tx::WRITES);
+    let writes = x.writes;
+    let mut i: usize = 0;
+    while i < n {
+        let w = writes[i];
+        i += 1;
+        if unwritten_from(writes, x.write_count, i, w.row) {
+            let head = head_of(heads, w.row);
+            if head.0 != w.base.0 {
+                return true;
+            }
+        }
+    }
+    false
+}

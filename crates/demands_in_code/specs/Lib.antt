@@ -1,0 +1,2 @@
+-- the demands, carried over to what a contract gives
+pub mod Demands

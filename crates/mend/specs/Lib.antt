@@ -1,5 +1,0 @@
-pub mod Keep
-pub mod Trim
-pub mod Clear
-pub mod Rebuild
-pub mod Whole

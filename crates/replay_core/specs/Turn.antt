@@ -1,0 +1,102 @@
+-- One line at one place: what it makes of the store, of its place's transaction and of the pending faults.
+use mathlib.Core.Path.{_≡_, refl, sym}
+use mathlib.Core.List.{[], _∷_}
+use Prim.Native.Nat.{ℕ, _<_}
+use native.Mathlib.Omega.{arith}
+use lib.ListN.{set}
+use lib.Seq.{set-getD}
+use Rattle.records.specs.Limits.{placeLimit}
+use Rattle.records.specs.Zero.{zeroTx}
+use Rattle.rules.specs.Types.{Store, Tx, Schedule}
+use Rattle.basic_laws.specs.Cases.{by}
+use Rattle.rules.specs.Numbers.{numberOf, isDone}
+use Rattle.rules.specs.Calls.{begin}
+use Rattle.rules.specs.Recovery.{recover}
+use Rattle.rules.specs.Replay.{Line, lineB, lineR, lineW, lineL, lineK, lineA, lineC, lineF, lineV, lineBad, Third, num, Desk, Turn, says, txAt, withFault, turn}
+use Rattle.rules.specs.Script.{Bytes, split, lineOf}
+use Rattle.script.specs.Print.{thirdOf}
+use Rattle.script.specs.Text.{PlaceBelow}
+use Rattle.script.specs.Accepted.{place-below}
+use Rattle.replay_core.specs.declared.turn.Turned.{Turned}
+
+-- the place that a line names; the first for a line that names none
+abbrev pub placeIn : Line → ℕ
+placeIn (lineB i) = i
+placeIn (lineR i r) = i
+placeIn (lineW i r v) = i
+placeIn (lineL i k) = i
+placeIn (lineK i r) = i
+placeIn (lineA i) = i
+placeIn (lineC i m c) = i
+placeIn (lineF n b k) = 0
+placeIn lineV = 0
+placeIn lineBad = 0
+
+-- the same line for the first place
+abbrev pub atFirst : Line → Line
+atFirst (lineB i) = lineB 0
+atFirst (lineR i r) = lineR 0 r
+atFirst (lineW i r v) = lineW 0 r v
+atFirst (lineL i k) = lineL 0 k
+atFirst (lineK i r) = lineK 0 r
+atFirst (lineA i) = lineA 0
+atFirst (lineC i m c) = lineC 0 m c
+atFirst (lineF n b k) = lineF n b k
+atFirst lineV = lineV
+atFirst lineBad = lineBad
+
+-- a desk of one place
+abbrev pub single : Store → Tx → Schedule → Desk
+single S x plan = record { store = S; txs = x ∷ []; plan = plan }
+
+-- what a line leaves and answers at the only place
+abbrev pub left : Store → Tx → Schedule → ℕ → Third → Turn
+left S x plan n t = record { desk = single S x plan; out = says n t }
+
+-- what the code's answer means
+abbrev pub turned : Turned → Turn
+turned r = left (r .store) (r .tx) (r .plan) (r .number) (thirdOf (r .third))
+
+-- a desk of which one place went through a turn
+abbrev pub joined : Desk → ℕ → Turn → Turn
+joined d i t = record { desk = record { store = t .desk .store; txs = set (d .txs) i (txAt (t .desk) 0); plan = t .desk .plan }; out = t .out }
+
+-- what a place holds, laid there again
+same-desk : (d : Desk) (i : ℕ) → d ≡ record { store = d .store; txs = set (d .txs) i (txAt d i); plan = d .plan }
+same-desk d i = λ j. record { store = d .store; txs = sym (set-getD (d .txs) i zeroTx) j; plan = d .plan }
+
+-- a line reads and changes its own place alone
+pub turn-alone : (l : Line) (d : Desk) → turn l d ≡ joined d (placeIn l) (turn (atFirst l) (single (d .store) (txAt d (placeIn l)) (d .plan)))
+unfolding turn
+turn-alone (lineB i) d =
+    let a = begin (d .store) in
+    by (isDone (a .refusal))
+    (λ e. rw e)
+    (λ e. rw e (λ j. record { desk = same-desk d i j; out = says (numberOf (a .refusal)) (num 0) }))
+turn-alone (lineR i r) d = refl
+turn-alone (lineW i r v) d = refl
+turn-alone (lineL i k) d = refl
+turn-alone (lineK i r) d = refl
+turn-alone (lineA i) d = refl
+turn-alone (lineC i m c) d = refl
+turn-alone (lineF n b k) d = λ j. record { desk = record { store = d .store; txs = same-desk d 0 j .txs; plan = withFault (record { step = n; letter = b; k = k }) (d .plan) }; out = says 0 (num 0) }
+turn-alone lineV d =
+    let a = recover (d .store) in
+    λ j. record { desk = record { store = a .store; txs = same-desk d 0 j .txs; plan = d .plan }; out = says (numberOf (a .refusal)) (num 0) }
+turn-alone lineBad d = λ j. record { desk = same-desk d 0 j; out = says 2 (num 0) }
+
+-- a line that is read names one of the 16 places
+below : (l : Line) → PlaceBelow l → placeIn l < placeLimit
+below (lineB i) h = h
+below (lineR i r) h = h
+below (lineW i r v) h = h
+below (lineL i k) h = h
+below (lineK i r) h = h
+below (lineA i) h = h
+below (lineC i m c) h = h
+below (lineF n b k) h = omega arith
+below lineV h = omega arith
+below lineBad h = omega arith
+
+pub place-in-below : (w : Bytes) {l : Line} {p : ℕ} → l ≡ lineOf (split 9 w) → p ≡ placeIn l → p < placeLimit
+place-in-below w {l} e q = rw q (below l (place-below w l (sym e)))

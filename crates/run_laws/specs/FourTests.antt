@@ -1,0 +1,68 @@
+-- The four tests of commit say yes exactly where the paper's sentences hold.
+use mathlib.Core.Path.{_≡_, refl}
+use mathlib.Core.Logic.{_↔_, _≢_, _⊎_, inl, inr, ⊎-elim, Iff·rfl, Iff·trans, Iff·and}
+use mathlib.Core.Bool.{Bool, true, false, not, _&&_, _||_, false≢true, and-eq-true-iff}
+use mathlib.Core.List.{List, [], _∷_}
+use Prim.Native.Nat.{ℕ, _≤_}
+use lib.ListN.{getD}
+use lib.Dec.{eqb}
+use borrow.Author.Tests.{eqb-false, ne-eqb, leb-true, le-leb, not-true}
+use Rattle.rules.specs.Lists.{any, memb}
+use Rattle.rules.specs.Types.{Store, Tx, ReadRecord}
+use Rattle.rules.specs.Store.{activeTxids}
+use Rattle.rules.specs.Transaction.{writesOf, readsOf, indexReadsOf, snapshotOf, finalWrites}
+use Rattle.rules.specs.Calls.{lockedByAnother}
+use Rattle.rules.specs.Tests.{indexReadConflict, rowLockConflict, readConflict, serializationConflict, writeBaseConflict}
+use Rattle.statements.specs.Words.{Some, LockedByAnother, Stale}
+
+-- a test with `||`, with `&&`, of a list, of two numbers, in words
+pub either : {P Q : Type 0} (a b : Bool) → (a ≡ true) ↔ P → (b ≡ true) ↔ Q → ((a || b) ≡ true) ↔ (P ⊎ Q)
+either true b p q = (λ t. inl (p .0 refl), λ s. refl)
+either false b p q = (λ t. inr (q .0 t), ⊎-elim (λ x. absurd (false≢true (p .1 x))) (q .1))
+
+pub both : {P Q : Type 0} (a b : Bool) → (a ≡ true) ↔ P → (b ≡ true) ↔ Q → ((a && b) ≡ true) ↔ (P × Q)
+both a b p q = Iff·trans (and-eq-true-iff a b) (Iff·and p q)
+
+neither : {P Q : Type 0} (a b : Bool) → (not a ≡ true) ↔ P → (not b ≡ true) ↔ Q → (not (a || b) ≡ true) ↔ (P × Q)
+neither true b p q = (λ t. absurd (false≢true t), λ s. p .1 (s .0))
+neither false b p q = (λ t. (p .0 refl, q .0 t), λ s. q .1 (s .1))
+
+some {ℓ} : {A : Type ℓ} (f : A → Bool) (P : A → Type 0) → ((a : A) → (f a ≡ true) ↔ P a) → (l : List A) → (any f l ≡ true) ↔ Some P l
+some f P h [] = (false≢true, absurd)
+some f P h (x ∷ l) = either (f x) (any f l) (h x) (some f P h l)
+
+pub differ : (m n : ℕ) → (not (eqb m n) ≡ true) ↔ (m ≢ n)
+differ m n = (λ t. eqb-false m n (not-true (eqb m n) t), λ d. rw (ne-eqb m n d))
+
+-- "11 index_conflict is set or a recorded stamp differs"
+pub index-reads-say : (stamps : List ℕ) (x : Tx) → (indexReadConflict stamps x ≡ true)
+    ↔ ((x .«index_conflict» ≡ true) ⊎ Some (λ e. getD stamps (e .stripe) 0 ≢ e .stamp .0) (indexReadsOf x))
+unfolding indexReadConflict
+index-reads-say stamps x = either _ _ Iff·rfl (some _ _ (λ e. differ _ _) (indexReadsOf x))
+
+-- "12 a written row's head has a live lock of another"
+pub row-locks-say : (S : Store) (x : Tx) → (rowLockConflict S x ≡ true)
+    ↔ Some (λ w. LockedByAnother S (x .txid .0) (getD (S .heads) (w .row .0) 0)) (writesOf x)
+unfolding rowLockConflict lockedByAnother
+row-locks-say S x = some _ _ (λ w. both _ _ Iff·rfl (both _ _ (differ _ _) Iff·rfl)) (writesOf x)
+
+pub read-says : (xmin xmax : List ℕ) (x : Tx) (e : ReadRecord) → (readConflict xmin xmax x e ≡ true) ↔ Stale xmin xmax x e
+unfolding readConflict
+read-says xmin xmax x e =
+    let b = getD xmax (e .ptr .0) 0 in
+    either _ _ (differ _ _)
+    (both _ _ (neither (eqb b 0) (eqb b (x .txid .0)) (differ _ _) (differ _ _)) (either _ _ (leb-true _ _, le-leb _ _) Iff·rfl))
+
+pub serialization-says : (xmin xmax : List ℕ) (x : Tx) → (serializationConflict xmin xmax x ≡ true) ↔ Some (Stale xmin xmax x) (readsOf x)
+unfolding serializationConflict
+serialization-says xmin xmax x = some _ _ (read-says xmin xmax x) (readsOf x)
+
+-- so a changed xmin conflicts whatever the xmax is, 0 and the reader's own included
+pub changed-xmin-conflicts : (xmin xmax : List ℕ) (x : Tx) (e : ReadRecord) → getD xmin (e .ptr .0) 0 ≢ e .xmin .0 → readConflict xmin xmax x e ≡ true
+changed-xmin-conflicts xmin xmax x e d = read-says xmin xmax x e .1 (inl d)
+
+-- "14 a final write's base is not the head"
+pub write-bases-say : (heads : List ℕ) (x : Tx) → (writeBaseConflict heads x ≡ true)
+    ↔ Some (λ w. getD heads (w .row .0) 0 ≢ w .base .0) (finalWrites (writesOf x))
+unfolding writeBaseConflict
+write-bases-say heads x = some _ _ (λ w. differ _ _) (finalWrites (writesOf x))

@@ -1,5 +1,0 @@
-pub mod Sight
-pub mod Own
-pub mod Chain
-pub mod Found
-pub mod Slots

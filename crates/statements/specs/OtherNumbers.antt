@@ -1,0 +1,65 @@
+-- "Numbers seen" for the calls beside commit: when each call gives which of 1, 2, 3, 9 and 21 to 28, and with which fate.
+use mathlib.Core.Bool.{not}
+use mathlib.Core.List.{List, [], _∷_, _++_}
+use Prim.Native.Nat.{ℕ}
+use lib.ListN.{length, getD}
+use lib.Dec.{eqb, ltb, leb}
+use Rattle.records.specs.Limits.{rows, activeLimit, writeLimit, readLimit, clockEnd}
+use Rattle.rules.specs.Lists.{memb}
+use Rattle.rules.specs.Types.{Store, Tx, Open, Closed}
+use Rattle.rules.specs.Types.{NotResting, Unfit, NotActive, FoundPoisoned, ActiveFull, ClockAtEnd, RowTooHigh, ReadsFull, WritesFull, SlotsFull, LockedByAnother, NoHead}
+use Rattle.rules.specs.Store.{activeTxids}
+use Rattle.rules.specs.Transaction.{readsOf}
+use Rattle.rules.specs.Admitted.{resting}
+use Rattle.rules.specs.Fit.{fit}
+use Rattle.rules.specs.Calls.{recordRead, lowestFree, candidates, recordReads, lockedByAnother}
+use Rattle.statements.specs.Table.{Line, line}
+
+-- "1, 2, 3": "store not resting; transaction .. unfit; txid not active"; closed for 3, else open
+abbrev pub firstLines : Store → Tx → List Line
+firstLines S x =
+    line 1 (NotResting Open) (not (resting S))
+    ∷ line 2 (Unfit Open) (not (fit S x))
+    ∷ line 3 (NotActive Closed) (not (memb (x .txid .0) (activeTxids (S .active))))
+    ∷ []
+
+-- "Others: 1, 2, 3, 9, then ..": "poisoned"
+abbrev pub healthyLines : Store → Tx → List Line → List Line
+healthyLines S x more = firstLines S x ++ line 9 (FoundPoisoned Open) (S .poisoned) ∷ more
+
+-- "begin 1, 9, 21, 22": "begin: 16 active; begin: clock at its largest"
+abbrev pub beginLines : Store → List Line
+beginLines S =
+    line 1 (NotResting Open) (not (resting S))
+    ∷ line 9 (FoundPoisoned Open) (S .poisoned)
+    ∷ line 21 (ActiveFull Open) (leb activeLimit (length (activeTxids (S .active))))
+    ∷ line 22 (ClockAtEnd Open) (leb clockEnd (S .clock))
+    ∷ []
+
+-- "row over 63; no room for a new read"
+abbrev pub readLines : Store → Tx → ℕ → List Line
+readLines S x r = healthyLines S x (
+    line 23 (RowTooHigh Open) (leb rows r)
+    ∷ line 24 (ReadsFull Open) (ltb readLimit (length (recordRead S x r (readsOf x))))
+    ∷ [])
+
+-- "row over 63; writes full; no free slot"
+abbrev pub writeLines : Store → Tx → ℕ → List Line
+writeLines S x r = healthyLines S x (
+    line 23 (RowTooHigh Open) (leb rows r)
+    ∷ line 25 (WritesFull Open) (leb writeLimit (x .«write_count»))
+    ∷ line 26 (SlotsFull Open) (eqb (lowestFree (S .xmin)) 0)
+    ∷ [])
+
+-- "24 if they don't all fit"
+abbrev pub lookupLines : Store → Tx → ℕ → List Line
+lookupLines S x k =
+    healthyLines S x (line 24 (ReadsFull Open) (ltb readLimit (length (recordReads S x (candidates S x k) (readsOf x)))) ∷ [])
+
+-- "for a row lock only: locked by another, no head"
+abbrev pub rowLockLines : Store → Tx → ℕ → List Line
+rowLockLines S x r = healthyLines S x (
+    line 23 (RowTooHigh Open) (leb rows r)
+    ∷ line 27 (LockedByAnother Open) (lockedByAnother S (x .txid .0) (getD (S .heads) r 0))
+    ∷ line 28 (NoHead Open) (eqb (getD (S .heads) r 0) 0)
+    ∷ [])

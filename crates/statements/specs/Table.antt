@@ -1,0 +1,60 @@
+-- A table of numbers, as "Numbers seen" is one: the first row that applies says what is answered.
+use mathlib.Core.Path.{_≡_}
+use mathlib.Core.Bool.{Bool, true, false, cond}
+use mathlib.Core.List.{List, [], _∷_, _++_}
+use mathlib.Core.Logic.{_↔_, _⊎_}
+use Prim.Native.Nat.{ℕ}
+use Rattle.rules.specs.Types.{Store, Tx, Refusal, Answer}
+use Rattle.rules.specs.Numbers.{numberOf}
+use Rattle.rules.specs.Answer.{recordOf}
+
+-- none of these tests holds
+abbrev pub None : List Bool → Type 0
+None [] = Unit {0}
+None (b ∷ bs) = (b ≡ false) × None bs
+
+-- the columns "No.", "When" and "Afterwards"; the refusal has its fate inside
+pub record Row : Type 0 where
+  pub number : ℕ
+  pub when : Bool
+  pub says : Refusal
+  pub store : Store
+  pub tx : Tx
+
+abbrev pub row : ℕ → Bool → Refusal → Store → Tx → Row
+row n b why T y = record { number = n; when = b; says = why; store = T; tx = y }
+
+-- the first row that applies, d if none does
+abbrev pub firstRow : List Row → Row → Row
+firstRow [] d = d
+firstRow (r ∷ rs) d = cond (r .when) r (firstRow rs d)
+
+-- why a number is given: a row of that number applies and none before it does; d's number where none applies at all
+abbrev pub Reason : ℕ → List Bool → List Row → Row → Type 0
+Reason n before [] d = (n ≡ d .number) × None before
+Reason n before (r ∷ rs) d = ((n ≡ r .number) × None before × (r .when ≡ true)) ⊎ Reason n (before ++ r .when ∷ []) rs d
+
+-- an answer is what a row says: its refusal, fate inside; "The record is zero unless 0"; store and transaction
+pub record Answers (x : Tx) (a : Answer) (w : Row) : Type 0 where
+  pub refusal : a .refusal ≡ w .says
+  pub «record» : a .«record» ≡ recordOf (w .says) x
+  pub store : a .store ≡ w .store
+  pub tx : a .tx ≡ w .tx
+
+-- a line of a shorter table, whose refusals change nothing: the number, the refusal with its fate inside, and when it applies
+pub record Line : Type 0 where
+  pub number : ℕ
+  pub says : Refusal
+  pub when : Bool
+
+abbrev pub line : ℕ → Refusal → Bool → Line
+line n why b = record { number = n; says = why; when = b }
+
+-- an answer is as the lines say: a line's number is given exactly where the line applies and none before it does, and then it is the line's
+-- refusal with its fate; 0 is given exactly where none applies
+abbrev pub Told : Refusal → List Bool → List Line → Type 0
+Told why before [] = (numberOf why ≡ 0) ↔ None before
+Told why before (l ∷ ls) =
+    ((numberOf why ≡ l .number) ↔ (None before × (l .when ≡ true)))
+    × (numberOf why ≡ l .number → why ≡ l .says)
+    × Told why (before ++ l .when ∷ []) ls

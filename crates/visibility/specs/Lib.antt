@@ -1,0 +1,5 @@
+pub mod Sight
+pub mod Own
+pub mod ChainTurns
+pub mod Found
+pub mod Slots
