@@ -3,6 +3,8 @@
 ghost use mathlib.Core.Path.{_≡_};
 ghost use mathlib.Core.Bool.{_&&_};
 ghost use Rattle.rules.specs.Numbers.{isDone};
+ghost use Rattle.rules.specs.Chains.{walk};
+ghost use Rattle.fields.specs.Lent.{atRows, atPlaces};
 ghost use Rattle.admit.specs.Admission.{triedBy, admitted};
 use fitting::tx::fit_of;
 use resting::rest::resting_marked;
@@ -42,13 +44,22 @@ fn tried(rests: bool, fits: bool, planned: bool, active: bool) -> Refusal
     Refusal::Done
 }
 
-// The store is at rest, the transaction fit under the marks of the same walk, its schedule fit, and its txid active.
+// The store is at rest, the transaction fit under the marks of the same walk, its schedule fit, and its txid active; `seen` comes back with
+// the marks, so that a call which goes by them walks no chain again.
+pub fn admitted_marked(s: Store, x: Tx, planned: bool, seen: &mut [u8; SlotPtr::PLACES]) -> Refusal
+    ensures answer { λ r. ⌜ r ≡ admitted s x planned ⌝ }
+    ensures marks { λ r. ⌜ now (seen .exit) ≡ walk (atRows (s .heads)) (atPlaces (s .next)) .seen ⌝ }
+{
+    let rests = resting_marked(s, seen);
+    let fits = fit_of(&s.xmin, &s.next, s.clock, seen, x);
+    let active = is_active(&s.active, x.txid);
+    tried(rests, fits, planned, active)
+}
+
+// The same of a call that needs no marks.
 pub fn admitted(s: Store, x: Tx, planned: bool) -> Refusal
     ensures { λ r. ⌜ r ≡ admitted s x planned ⌝ }
 {
     let mut seen = [0; SlotPtr::PLACES];
-    let rests = resting_marked(s, &mut seen);
-    let fits = fit_of(&s.xmin, &s.next, s.clock, &seen, x);
-    let active = is_active(&s.active, x.txid);
-    tried(rests, fits, planned, active)
+    admitted_marked(s, x, planned, &mut seen)
 }

@@ -1,33 +1,31 @@
 -- Chains: a chain is a list that is checked, and the definition by fuel computes it.
-use mathlib.Core.Path.{_≡_, refl, sym, ap}
+use mathlib.Core.Path.{_≡_, refl, ap}
 use mathlib.Core.Bool.{true, false}
 use mathlib.Core.List.{List, [], _∷_}
 use Prim.Native.Nat.{ℕ, zero, suc, _≤_, _<_}
 use native.Mathlib.Omega.{arith}
-use lib.ListN.{length, getD, set, length-set}
-use lib.Seq.{getD-set-other}
+use lib.ListN.{length, getD}
 use lib.Dec.{eqb}
-use borrow.Author.Tests.{eqb-true, eqb-false}
+use borrow.Author.Tests.{eqb-true}
 use Rattle.rules.specs.Lists.{memb}
 use Rattle.rules.specs.Chains.{chainFrom}
-use Rattle.basic_laws.specs.Cases.{by, clash, or-true, or-false, mem-here}
+use Rattle.basic_laws.specs.Cases.{by, clash, or-true, mem-here, mem-there}
 
 -- the list starts at p, leads through slots and ends at 0
 abbrev pub IsChain : List ℕ → ℕ → List ℕ → Type 0
 IsChain ns p [] = p ≡ 0
 IsChain ns p (x ∷ l) = (p ≡ x) × (0 < x) × (x < length ns) × IsChain ns (getD ns x 0) l
 
--- setting the next of a slot that is not on the chain leaves the chain
-pub chain-set : (ns : List ℕ) (p : ℕ) (l : List ℕ) (s v : ℕ) → memb s l ≡ false → IsChain ns p l → IsChain (set ns s v) p l
-chain-set ns p [] s v off h = h
-chain-set ns p (x ∷ l) s v off h =
-    let o = or-false (eqb s x) (memb s l) off in
-    let ne : x ≡ s → ⊥ = λ q. eqb-false s x (o .0) (sym q) in (
-      h .0,
-      h .1,
-      rw length-set (h .2),
-      rw (getD-set-other ns s x v 0 ne) (chain-set ns (getD ns x 0) l s v (o .1) (h .3)),
-    )
+-- a chain whose slots keep their next
+pub chain-near : (ns ms : List ℕ) (p : ℕ) (l : List ℕ) → length ms ≡ length ns
+    → ((x : ℕ) → memb x l ≡ true → getD ms x 0 ≡ getD ns x 0) → IsChain ns p l → IsChain ms p l
+chain-near ns ms p [] e h c = c
+chain-near ns ms p (x ∷ l) e h c = (
+  c .0,
+  c .1,
+  omega (arith, c .2),
+  rw (h x (mem-here x l)) (chain-near ns ms (getD ns x 0) l e (λ y m. h y (mem-there y x l m)) (c .3)),
+)
 
 -- a head moved to a slot whose next is the old head: the chain grows by that slot
 pub chain-push : (ns : List ℕ) (n p : ℕ) (l : List ℕ) → 0 < n → n < length ns → getD ns n 0 ≡ p → IsChain ns p l → IsChain ns n (n ∷ l)

@@ -32,10 +32,10 @@ use Rattle.recovery_laws.specs.Sizes.{sized-all}
 use Rattle.admitted_laws.specs.Resting.{Rests, rests, rested}
 use Rattle.call_laws.specs.Refusals.{begin-accepted}
 use Rattle.call_laws.specs.Passed.{begin-passed}
-use Rattle.call_laws.specs.Near.{Alike, versions-near, created-near, ended-near}
+use Rattle.recovery_laws.specs.Carried.{listed-rest}
 use Rattle.recovery_laws.specs.Unfinished.{finished-same}
 use Rattle.call_laws.specs.ActiveList.{mem-active, unfinished-below, form-pad, ended-below}
-use Rattle.call_laws.specs.Keeps.{Keeps, same-postings, same-posted}
+use Rattle.call_laws.specs.Keeps.{Keeps}
 
 -- a list with one number more
 pub mem-more : (l : List ℕ) (c t : ℕ) → memb t (l ++ c ∷ []) ≡ (memb t l || eqb t c)
@@ -95,44 +95,20 @@ module _ (S : Store) (L : ℕ → List ℕ) (z : Sized S) (R : Rests S L) (few :
       mem-active (entered S .active) (suc clock) form t n ∙ ap (memb t) listed ∙ mem-more acts clock t
       ∙ rw (ne-eqb t clock (λ e. omega (arith, e, lt))) (or-none (memb t acts) ∙ sym (mem-active (S .active) clock (R .mends .listed) t n)))
 
-  -- so the versions on chains are as they were
-  alike : (r x : ℕ) → r < length (S .heads) → memb x (L r) ≡ true → Alike (S .xmin) (S .xmax) (S .xmin) (S .xmax) (finished (S .active) (S .doomed)) (finished (entered S .active) (S .doomed)) x
-  alike r x lt m =
-      let M = R .mends in
-      record {
-        created = refl;
-        ended = refl;
-        creator = finished-near (getD (S .xmin) x 0) (M .below x);
-        ender = finished-near (getD (S .xmax) x 0) (ended-below (S .xmin) (S .xmax) (finished (S .active) (S .doomed)) clock (M .below) (λ v n. unfinished-below (S .active) clock (M .listed) (S .doomed) v (M .doom) n) (M .started) (L r) (M .stands .versions r lt) x m);
-      }
-
   -- the store rests with the same chains
   begin-rests : Rests (entered S) L
   begin-rests =
       let M = R .mends in
-      let g = finished (entered S .active) (S .doomed) in
-      record {
-        mends = record {
-          started = omega arith;
-          slots = M .slots;
-          listed = form;
-          below = λ p. omega (arith, M .below p);
-          doom = omega (arith, M .doom);
-          stands = record {
-            chains = M .stands .chains;
-            led = M .stands .led;
-            versions = versions-near S L R (S .xmin) (S .xmax) g alike;
-            off = λ p u o. let a = M .stands .off p u o in record { unfinished = finished-near (getD (S .xmin) p 0) (M .below p) ∙ a .unfinished; unmarked = a .unmarked; within = a .within };
-          };
-        };
-        stripes = R .stripes;
-        partitions = R .partitions;
-        posted = same-posted S (entered S) refl refl (R .posted);
-        created = created-near S L R (S .xmin) (S .xmax) g alike;
-        ended = ended-near S L R (S .xmin) (S .xmax) g alike;
-        undoomed = R .undoomed;
-        exact = λ n. same-postings S (entered S) refl refl ∙ R .exact n;
-      }
+      let f = finished (S .active) (S .doomed) in
+      let low : (v : ℕ) → f v ≡ false → v < clock = λ v n. unfinished-below (S .active) clock (M .listed) (S .doomed) v (M .doom) n in
+      listed-rest S L (entered S .active) (suc clock) (record {
+        form = form;
+        later = omega arith;
+        creator = λ r x lt m. finished-near (getD (S .xmin) x 0) (M .below x);
+        ender = λ r x lt m. finished-near (getD (S .xmax) x 0)
+            (ended-below (S .xmin) (S .xmax) f clock (M .below) low (M .started) (L r) (M .stands .versions r lt) x m);
+        off = λ p u o. finished-near (getD (S .xmin) p 0) (M .below p);
+      }) R
 
   -- the new transaction is fit: its lists are empty, its snapshot the earlier active list
   begin-fits : fit (entered S) (begun S) ≡ true

@@ -6,19 +6,20 @@ use mathlib.Core.Logic.{_↔_}
 use Prim.Native.Nat.{ℕ, suc, _<_}
 use native.Mathlib.Omega.{arith}
 use lib.Dec.{eqb, leb}
-use borrow.Author.Tests.{eqb-true, eqb-false, eq-eqb, ne-eqb, ltb-true, leb-true}
+use borrow.Author.Tests.{eqb-true, ltb-true, leb-true}
 use Rattle.records.specs.Limits.{rows}
 use Rattle.rules.specs.Lists.{all, any, memb, those, rising}
 use Rattle.rules.specs.Types.{Store, Tx, Write, Key}
-use Rattle.rules.specs.Store.{posting, keyOf, rowOf, valueAt, sameValue, postingsOf}
+use Rattle.rules.specs.Store.{posting, keyOf, rowOf, valueAt, carries, postingsOf}
 use Rattle.rules.specs.Transaction.{writesOf}
 use Rattle.rules.specs.Chains.{walk}
 use Rattle.rules.specs.Fit.{writeFit, fit}
 use Rattle.rules.specs.Calls.{readPtr, candidates, matching}
-use Rattle.basic_laws.specs.Cases.{by, clash, iff, and-true, and-both, or-true}
+use Rattle.basic_laws.specs.Cases.{by, clash, and-true, and-both, or-true}
 use Rattle.basic_laws.specs.Members.{mem-those}
 use Rattle.basic_laws.specs.TestParts.{write-parts, fit-parts}
-use Rattle.posting_laws.specs.HeadsTold.{same-value, value-same}
+use Rattle.posting_laws.specs.HeadsTold.{carries-key}
+use Rattle.posting_laws.specs.LookupFinds.{candidate-tells}
 use Rattle.posting_laws.specs.Posted.{mem-append}
 use Rattle.basic_laws.specs.Rising.{eqb-sym, rising-less, mem-inOrder, rising-inOrder}
 use Rattle.call_laws.specs.ReadLaws.{ofRow}
@@ -33,21 +34,6 @@ rising-those lo f (x ∷ l) h =
     (λ e. rw (e, a .0) r)
     (λ e. rw e (rising-less lo (suc x) (those f l) (omega (arith, leb-true lo x (a .0))) r))
 
--- the rows of the key's postings are those with a posting of the key
-posting-one : (k r c : ℕ) → r < rows → keyOf c ≡ k → eqb r (rowOf c) ≡ eqb (posting k r) c
-posting-one k r c lt e = iff (eqb r (rowOf c)) (eqb (posting k r) c)
-    (λ h. eq-eqb (posting k r) c (omega (arith, eqb-true r (rowOf c) h)))
-    (λ h. eq-eqb r (rowOf c) (omega (arith, eqb-true (posting k r) c h)))
-
--- (of a whole list)
-mem-postings : (k r : ℕ) → r < rows → (l : List ℕ) → memb r (map rowOf (those (λ c. eqb (keyOf c) k) l)) ≡ memb (posting k r) l
-mem-postings k r lt [] = refl
-mem-postings k r lt (c ∷ l) =
-    let i = mem-postings k r lt l in
-    by (eqb (keyOf c) k)
-    (λ e. rw (e, i, posting-one k r c lt (eqb-true (keyOf c) k e)))
-    (λ e. rw (e, i, ne-eqb (posting k r) c (λ q. eqb-false (keyOf c) k e (omega (arith, q, lt)))))
-
 -- rows of writes
 mem-rows : (r : ℕ) (ws : List Write) → memb r (map (λ w. w .row .0) ws) ≡ any (ofRow r) ws
 mem-rows r [] = refl
@@ -61,11 +47,7 @@ rows-below r (c ∷ l) m = or-true (eqb r (rowOf c)) (memb r (map rowOf l)) m (�
 module _ (S : Store) (x : Tx) (k : ℕ) where
   -- "rows from postings of the key and own writes"
   pub candidate-is : (r : ℕ) → r < rows → memb r (candidates S x k) ≡ (memb (posting k r) (postingsOf S) || any (ofRow r) (writesOf x))
-  unfolding candidates
-  candidate-is r lt =
-      let keyed = map rowOf (those (λ c. eqb (keyOf c) k) (postingsOf S)) in
-      let written = map (λ w. w .row .0) (writesOf x) in
-      mem-inOrder (keyed ++ written) r ∙ mem-append keyed written r ∙ rw (mem-postings k r lt (postingsOf S), mem-rows r (writesOf x))
+  candidate-is r lt = candidate-tells S x k r lt ∙ rw (mem-rows r (writesOf x))
 
   -- "rising"
   pub candidates-rise : rising 0 (candidates S x k) ≡ true
@@ -75,15 +57,18 @@ module _ (S : Store) (x : Tx) (k : ℕ) where
   -- so do the rows found
   pub matching-rise : rising 0 (matching S x k) ≡ true
   unfolding matching
-  matching-rise = rising-those 0 (λ r. sameValue (valueAt (S .key) (S .has) (readPtr S x r)) (Key k)) (candidates S x k) candidates-rise
+  matching-rise = rising-those 0 (λ r. carries (S .key) (S .has) (readPtr S x r) k) (candidates S x k) candidates-rise
 
   -- "kept if the read value is the key"
   pub matching-is : (r : ℕ) → (memb r (matching S x k) ≡ true) ↔ ((memb r (candidates S x k) ≡ true) × (valueAt (S .key) (S .has) (readPtr S x r) ≡ Key k))
   unfolding matching
   matching-is r =
-      let v = valueAt (S .key) (S .has) (readPtr S x r) in
-      let e = mem-those (λ q. sameValue (valueAt (S .key) (S .has) (readPtr S x q)) (Key k)) (candidates S x k) r in
-      (λ m. let a = and-true (memb r (candidates S x k)) (sameValue v (Key k)) (sym e ∙ m) in (a .0, same-value v (Key k) (a .1)), λ a. e ∙ and-both (memb r (candidates S x k)) (sameValue v (Key k)) (a .0) (rw (a .1) (value-same (Key k))))
+      let c = carries (S .key) (S .has) (readPtr S x r) k in
+      let meant = carries-key (S .key) (S .has) (readPtr S x r) k in
+      let e = mem-those (λ q. carries (S .key) (S .has) (readPtr S x q) k) (candidates S x k) r in (
+        (λ m. let a = and-true (memb r (candidates S x k)) c (sym e ∙ m) in (a .0, meant .0 (a .1))),
+        (λ a. e ∙ and-both (memb r (candidates S x k)) c (a .0) (meant .1 (a .1))),
+      )
 
   module _ (f : fit S x ≡ true) where
     -- the rows of fit writes are below 64

@@ -3,9 +3,9 @@ use mathlib.Core.Path.{_≡_, refl, sym, ap, _∙_}
 use mathlib.Core.Bool.{Bool, true, false, cond, _||_}
 use mathlib.Core.List.{List, [], _∷_, _++_, append-assoc, append-nil}
 use Prim.Native.Nat.{ℕ}
+use native.Mathlib.Omega.{arith}
 use lib.ListN.{getD}
 use lib.Dec.{eqb}
-use borrow.Author.Tests.{eq-eqb, lt-ltb}
 use Rattle.records.specs.Limits.{activeLimit}
 use Rattle.records.specs.Zero.{onlyTxid}
 use Rattle.basic_laws.specs.Cases.{clash}
@@ -27,12 +27,13 @@ use Rattle.statements.specs.Words.{Freed, abortedNumber, Admitted}
 use Rattle.run_laws.specs.FirstRows.{whole, stay-not, spoil-not}
 use Rattle.run_laws.specs.Kinds.{index-kind, taken-kinds, release-kinds, insertions-kind, rollback-kinds}
 use Rattle.statements.specs.Sized.{Sized}
+use Rattle.run_laws.specs.OwnSlots.{parts-own}
 use Rattle.recovery_laws.specs.Unfinished.{dropped, dropped-gone}
 use Rattle.recovery_laws.specs.Start.{txid-positive}
 use Rattle.admitted_laws.specs.Resting.{rests}
 use Rattle.call_laws.specs.Refusals.{abort-accepted}
 use Rattle.call_laws.specs.Passed.{abort-passed}
-use Rattle.call_laws.specs.AbortLaws.{ownOf, own-is, aborted-is, wiped-all}
+use Rattle.call_laws.specs.AbortLaws.{ownOf, aborted-is, wiped-all}
 
 -- abort's stores leave that
 abort-frees : (S : Store) (t : ℕ) → Sized S → resting S ≡ true → memb t (activeTxids (S .active)) ≡ true → Freed S t (applyAll (abortPuts S t) S)
@@ -40,7 +41,7 @@ abort-frees S t z r a =
     let R = rests S z r in
     rw (aborted-is S t) (record {
       freed = λ p e off. wiped-all (ownOf S t) (dropped (S .active) t) S p
-          (own-is S (R .0) z (R .1) t a p ∙ rw (off, e, eq-eqb t t refl, lt-ltb 0 t (txid-positive S (R .0) z (R .1) t a)));
+          (parts-own (S .heads) (S .next) (S .xmin) t p (record { some = omega (arith, e, txid-positive S (R .0) z (R .1) t a); mine = e; off = off }));
       gone = dropped-gone (S .active) (S .clock) (R .1 .mends .listed) (z .active) t;
     })
 

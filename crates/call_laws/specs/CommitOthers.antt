@@ -13,7 +13,7 @@ use borrow.Author.Tests.{eqb-true, eqb-false, eq-eqb, ne-eqb, ltb-true, ltb-fals
 use Rattle.records.specs.Limits.{activeLimit}
 use Rattle.rules.specs.Lists.{all, any, memb, flat, without}
 use Rattle.rules.specs.Types.{Store, Tx, Write, Schedule, Cut, Uncut, After}
-use Rattle.rules.specs.Store.{usedSlots, activeTxids}
+use Rattle.rules.specs.Store.{activeTxids}
 use Rattle.rules.specs.Transaction.{writesOf, finals}
 use Rattle.rules.specs.Chains.{walk, on}
 use Rattle.rules.specs.Fit.{fit, writeFit}
@@ -27,10 +27,11 @@ use Rattle.basic_laws.specs.Cases.{by, clash, and-true, and-both, or-true, or-f
 use Rattle.run_laws.specs.OnlyKinds.{only-take, kept, is-not}
 use Rattle.statements.specs.Words.{Admitted}
 use Rattle.run_laws.specs.FirstRows.{every-commit}
+use Rattle.run_laws.specs.OwnSlots.{own-parts, recycled-parts}
 use Rattle.basic_laws.specs.AllOf.{all-append, all-take}
 use Rattle.basic_laws.specs.Rising.{mem-without}
 use Rattle.basic_laws.specs.LaidOut.{pad-length}
-use Rattle.basic_laws.specs.Members.{all-mem, mem-those}
+use Rattle.basic_laws.specs.Members.{all-mem}
 use Rattle.basic_laws.specs.Chain.{IsChain, chain-head}
 use Rattle.basic_laws.specs.Chained.{Chained}
 use Rattle.statements.specs.Sized.{Sized, Keyed}
@@ -41,7 +42,7 @@ use Rattle.admitted_laws.specs.Resting.{Rests, rests}
 use Rattle.recovery_laws.specs.Unfinished.{dropped, dropped-are, dropped-form}
 use Rattle.recovery_laws.specs.Sizes.{sized-all}
 use Rattle.recovery_laws.specs.Calm.{calm}
-use Rattle.recovery_laws.specs.OwnFreed.{set-blank}
+use Rattle.run_laws.specs.GuardPuts.{set-blank}
 use Rattle.recovery_laws.specs.Ways.{based}
 use Rattle.recovery_laws.specs.Prefix.{prefix}
 use Rattle.recovery_laws.specs.EveryStore.{counted, run-all, run-counted}
@@ -111,28 +112,20 @@ module _ (S : Store) (x : Tx) (L : ℕ → List ℕ) (z : Sized S) (R : Rests S 
   freed-spare [] h = refl
   freed-spare (p ∷ l) h = rw (h p (mem-here p l)) (freed-spare l (λ q m. h q (mem-there q p l m)))
 
-  own-mine : (p : ℕ) → memb p (ownSlots (S .heads) (S .next) (S .xmin) t) ≡ true → eqb (getD (S .xmin) p 0) t ≡ true
-  unfolding ownSlots
-  own-mine p m =
-      let f : ℕ → Bool = λ q. eqb (getD (S .xmin) q 0) t && not (on seen q) in
-      let a = and-true (memb p (usedSlots (S .xmin))) (f p) (sym (mem-those f (usedSlots (S .xmin)) p) ∙ m) in
-      and-true (eqb (getD (S .xmin) p 0) t) (not (on seen p)) (a .1) .0
-
   abort-spares : all spares (abortPuts S t) ≡ true
   unfolding abortPuts
   abort-spares =
       let own = ownSlots (S .heads) (S .next) (S .xmin) t in
-      all-append spares (map putFree own) (putDrop t ∷ []) (freed-spare own own-mine) (rw (eq-eqb t t refl))
+      let mine : (p : ℕ) → memb p own ≡ true → eqb (getD (S .xmin) p 0) t ≡ true
+      = λ p m. eq-eqb (getD (S .xmin) p 0) t (own-parts (S .heads) (S .next) (S .xmin) t p m .mine) in
+      all-append spares (map putFree own) (putDrop t ∷ []) (freed-spare own mine) (rw (eq-eqb t t refl))
 
   recycling-spares : all spares (recycling S x) ≡ true
-  unfolding recycling recycled
-  recycling-spares =
-      let own = ownSlots (S .heads) (S .next) (S .xmin) t in
-      let f : ℕ → Bool = λ p. not (memb p (map (λ w. w .new .0) (finals x))) in
-      freed-spare (recycled S x) (λ p m. own-mine p (and-true (memb p own) (f p) (sym (mem-those f own p) ∙ m) .0))
+  unfolding recycling
+  recycling-spares = freed-spare (recycled S x) (λ p m. eq-eqb (getD (S .xmin) p 0) t (recycled-parts S x p m .0 .mine))
 
   -- publication, past the tests
-  module _ (fits : fit S x ≡ true) (free : writeBaseConflict (S .heads) x ≡ false) where
+  module _ (fits : fit S x ≡ true) (free : writeBaseConflict S x ≡ false) where
     abbrev fitting : Write → Bool
     fitting = writeFit (S .xmin) (S .next) seen t
 

@@ -3,11 +3,10 @@ use mathlib.Core.Path.{_≡_}
 use mathlib.Core.Bool.{true}
 use Rattle.rules.specs.Lists.{memb}
 use Rattle.rules.specs.Types.{Store, Tx}
-use Rattle.rules.specs.Store.{postingsOf, activeTxids}
+use Rattle.rules.specs.Store.{activeTxids}
 use Rattle.rules.specs.Admitted.{resting}
 use Rattle.rules.specs.Fit.{fit}
 use Rattle.statements.specs.Sized.{Sized}
-use Rattle.admitted_laws.specs.Resting.{PostingForm}
 use Rattle.call_laws.specs.Counts.{SizedTx}
 
 -- numbers 1, 2 and 3 don't apply to the next call
@@ -17,13 +16,3 @@ pub record Keeps (T : Store) (y : Tx) : Type 0 where
   pub rests : resting T ≡ true
   pub fits : fit T y ≡ true
   pub active : memb (y .txid .0) (activeTxids (T .active)) ≡ true
-
--- the postings of a store that has the same array of them
-module _ (S T : Store) (a : T .postings ≡ S .postings) (n : T .«posting_count» ≡ S .«posting_count») where
-  pub same-postings : postingsOf T ≡ postingsOf S
-  unfolding postingsOf
-  same-postings = rw (a, n)
-
-  -- are in their form if they were
-  pub same-posted : PostingForm S → PostingForm T
-  same-posted P = record { few = rw n (P .few); climb = rw same-postings (P .climb); keys = λ c m. P .keys c (rw same-postings at m); after = λ i le. rw a (P .after i (rw n at le)) }

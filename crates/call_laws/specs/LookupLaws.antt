@@ -9,6 +9,7 @@ use lib.ListN.{length, getD}
 use lib.Dec.{eqb}
 use borrow.Author.Tests.{eqb-false, ne-eqb, le-leb, not-true}
 use Rattle.records.specs.Limits.{rows, readLimit, indexReadLimit}
+use Rattle.records.specs.Relations.{stripes-read, stripes-some}
 use Rattle.records.specs.Zero.{noRead, noIndexRead}
 use Rattle.rules.specs.Lists.{any, memb, pad, rising}
 use Rattle.rules.specs.Types.{Store, Tx, ReadRecord, IndexRead, Found, Key}
@@ -107,10 +108,10 @@ module _ (S : Store) (x : Tx) (k : ℕ) (z : Sized S) (y : SizedTx x) (h : numbe
 
   -- the stripes of the index reads stay distinct, and so they fit
   apart : stripesApart e ≡ true
-  apart = stamps-apart (stripeOf k) (stampOf S k) (indexReadsOf x) (omega arith) (fit-parts S x (passed .first .fits) .stripes)
+  apart = stamps-apart (stripeOf k) (stampOf S k) (indexReadsOf x) (omega (arith, stripes-some)) (fit-parts S x (passed .first .fits) .stripes)
 
   few : length e ≤ indexReadLimit
-  few = stripes-few e apart
+  few = omega (arith, stripes-few e apart, stripes-read)
 
   -- it answers as said
   pub lookup-looks : (L : ℕ → List ℕ) → Rests S L → Looks S x k L (lookup S x k)

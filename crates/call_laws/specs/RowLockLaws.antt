@@ -9,6 +9,7 @@ use lib.ListN.{getD, length}
 use lib.Seq.{getD-set-same, getD-set-other}
 use lib.Dec.{eqb}
 use borrow.Author.Tests.{eqb-false, ne-eqb, not-true}
+use Rattle.records.specs.Setters.{slotted}
 use Rattle.rules.specs.Lists.{memb}
 use Rattle.rules.specs.Types.{Store, Tx, Reply}
 use Rattle.rules.specs.Store.{activeTxids}
@@ -25,7 +26,8 @@ use Rattle.recovery_laws.specs.Sizes.{sized-apply}
 use Rattle.call_laws.specs.Refusals.{rowLock-accepted}
 use Rattle.call_laws.specs.Passed.{rowLock-passed}
 use Rattle.call_laws.specs.Counts.{SizedTx}
-use Rattle.call_laws.specs.Keeps.{Keeps, same-postings, same-posted}
+use Rattle.recovery_laws.specs.Carried.{slots-rest}
+use Rattle.call_laws.specs.Keeps.{Keeps}
 
 -- "a lock whose owner isn't active is void": 27 is for a live lock of another
 pub live-lock : (S : Store) (t p : ℕ) → (lockedByAnother S t p ≡ true)
@@ -46,7 +48,7 @@ pub record Locks (S : Store) (x : Tx) (r : ℕ) (a : Reply) : Type 0 where
   pub owner : getD (a .store .owner) (getD (S .heads) r 0) 0 ≡ x .txid .0
   pub otherLocks : (p : ℕ) → (p ≡ getD (S .heads) r 0 → ⊥) → getD (a .store .locked) p false ≡ getD (S .locked) p false
   pub otherOwners : (p : ℕ) → (p ≡ getD (S .heads) r 0 → ⊥) → getD (a .store .owner) p 0 ≡ getD (S .owner) p 0
-  pub rest : a .store ≡ record { heads = S .heads; xmin = S .xmin; xmax = S .xmax; next = S .next; key = S .key; has = S .has; locked = a .store .locked; owner = a .store .owner; postings = S .postings; «posting_count» = S .«posting_count»; «stripe_guards» = S .«stripe_guards»; «partition_guards» = S .«partition_guards»; stamps = S .stamps; active = S .active; clock = S .clock; poisoned = S .poisoned; doomed = S .doomed; bound = S .bound }
+  pub rest : a .store ≡ slotted (S .xmin) (S .xmax) (S .next) (S .key) (S .has) (a .store .locked) (a .store .owner) S
   pub tx : a .tx ≡ x
 
 module _ (S : Store) (p t : ℕ) where
@@ -65,18 +67,13 @@ module _ (S : Store) (p t : ℕ) where
 
   -- the store rests with the same chains
   lock-rests : (L : ℕ → List ℕ) → 0 < getD (S .xmin) p 0 → Rests S L → Rests locked L
-  lock-rests L u R =
-      let M = R .mends in
-      record {
-        mends = record { started = M .started; slots = lock-slots u (M .slots); listed = M .listed; below = M .below; doom = M .doom; stands = M .stands };
-        stripes = R .stripes;
-        partitions = R .partitions;
-        posted = same-posted S locked refl refl (R .posted);
-        created = R .created;
-        ended = R .ended;
-        undoomed = R .undoomed;
-        exact = λ n. same-postings S locked refl refl ∙ R .exact n;
-      }
+  lock-rests L u R = slots-rest S L (S .xmin) (S .xmax) (S .next) (S .key) (S .has) (locked .locked) (locked .owner) (record {
+    kept = λ r x lt m. record { xmin = refl; xmax = refl; next = refl; key = refl; has = refl };
+    long = refl;
+    form = lock-slots u (R .mends .slots);
+    below = R .mends .below;
+    off = R .mends .stands .off;
+  }) R
 
 -- an accepted row lock
 module _ (S : Store) (x : Tx) (r : ℕ) (z : Sized S) (h : numberOf (rowLock S x r .refusal) ≡ 0) where

@@ -9,6 +9,7 @@ use lib.Seq.{getD-set-same, getD-set-other, getD-drop}
 use lib.Dec.{eqb}
 use borrow.Author.Tests.{eqb-true, eqb-false}
 use Rattle.records.specs.Limits.{slots}
+use Rattle.records.specs.Setters.{slotted}
 use Rattle.rules.specs.Lists.{memb, firstZero}
 use Rattle.rules.specs.Types.{Store, Value, Absent, Key}
 use Rattle.rules.specs.Store.{activeTxids}
@@ -21,8 +22,7 @@ use Rattle.admitted_laws.specs.Repairable.{SlotForm, Off, OffForm}
 use Rattle.recovery_laws.specs.Start.{txid-positive, txid-unfinished}
 use Rattle.recovery_laws.specs.Sizes.{sized-all}
 use Rattle.admitted_laws.specs.Resting.{Rests}
-use Rattle.call_laws.specs.Near.{Alike, chains-near, postings-near, led-near, versions-near, created-near, ended-near}
-use Rattle.call_laws.specs.Keeps.{same-postings, same-posted}
+use Rattle.recovery_laws.specs.Carried.{slots-rest}
 
 -- nonzero numbers before a place, and one more in front
 up : (x : ℕ) (l : List ℕ) (i : ℕ) → 0 < x → ((j : ℕ) → j < i → 0 < getD l j 0) → (j : ℕ) → j < suc i → 0 < getD (x ∷ l) j 0
@@ -71,7 +71,8 @@ hasAt p (Key k) l = set l p true
 
 -- (the whole store)
 abbrev pub took : ℕ → ℕ → ℕ → Value → Store → Store
-took p t q v S = record { heads = S .heads; xmin = set (S .xmin) p t; xmax = S .xmax; next = set (S .next) p q; key = keyAt p v (S .key); has = hasAt p v (S .has); locked = S .locked; owner = S .owner; postings = S .postings; «posting_count» = S .«posting_count»; «stripe_guards» = S .«stripe_guards»; «partition_guards» = S .«partition_guards»; stamps = S .stamps; active = S .active; clock = S .clock; poisoned = S .poisoned; doomed = S .doomed; bound = S .bound }
+took p t q v S =
+    slotted (set (S .xmin) p t) (S .xmax) (set (S .next) p q) (keyAt p v (S .key)) (hasAt p v (S .has)) (S .locked) (S .owner) S
 
 -- the puts of a write leave that store
 pub took-is : (p t q : ℕ) (v : Value) (S : Store) → applyAll (takeSlot p t q v) S ≡ took p t q v S
@@ -136,10 +137,6 @@ module _ (S : Store) (L : ℕ → List ℕ) (z : Sized S) (R : Rests S L) (p t q
             (λ k. let n = eqb-false x p k in key-other p v (S .key) x n ∙ F .absent x (sym (has-other p v (S .has) x n) ∙ e));
       }
 
-  -- the versions on chains are as they were
-  alike : (r x : ℕ) → r < length (S .heads) → memb x (L r) ≡ true → Alike (S .xmin) (S .xmax) (T .xmin) (T .xmax) f f x
-  alike r x lt m = record { created = xmin-other x (away r x lt m); ended = refl; creator = refl; ender = refl }
-
   -- a slot off every chain is of an unfinished txid, the new one too
   took-off : (x : ℕ) → 0 < getD (T .xmin) x 0 → Off (S .heads) L x → OffForm (T .xmin) (T .xmax) (T .next) f x
   took-off x u o = by (eqb x p)
@@ -154,32 +151,18 @@ module _ (S : Store) (L : ℕ → List ℕ) (z : Sized S) (R : Rests S L) (p t q
 
   -- the store rests with the same chains
   pub took-rests : Rests T L
-  took-rests =
-      let M = R .mends in
-      let C = M .stands .chains in
-      record {
-        mends = record {
-          started = M .started;
-          slots = took-slots;
-          listed = M .listed;
-          below = λ x. by (eqb x p)
-              (λ k. rw (eqb-true x p k, xmin-here) (M .listed .past t a))
-              (λ k. rw (xmin-other x (eqb-false x p k)) (M .below x));
-          doom = M .doom;
-          stands = record {
-            chains = chains-near (S .heads) (S .next) L C (T .next) (length-set (S .next) p q) (λ r x lt m. next-other x (away r x lt m));
-            led = led-near S L R (T .xmin) (T .xmax) f alike;
-            versions = versions-near S L R (T .xmin) (T .xmax) f alike;
-            off = took-off;
-          };
-        };
-        stripes = R .stripes;
-        partitions = R .partitions;
-        posted = same-posted S T refl refl (R .posted);
-        created = created-near S L R (T .xmin) (T .xmax) f alike;
-        ended = ended-near S L R (T .xmin) (T .xmax) f alike;
-        undoomed = R .undoomed;
-        exact = λ n. same-postings S T refl refl ∙ R .exact n ∙ sym (postings-near (S .heads) (S .next) L C (S .key) (T .key) (S .has) (T .has)
-            (λ r x lt m. key-other p v (S .key) x (away r x lt m)) (λ r x lt m. has-other p v (S .has) x (away r x lt m))
-            (key-other p v (S .key) 0 (λ e. omega (arith, e, W .some))) (has-other p v (S .has) 0 (λ e. omega (arith, e, W .some))));
-      }
+  took-rests = slots-rest S L (T .xmin) (T .xmax) (T .next) (T .key) (T .has) (T .locked) (T .owner) (record {
+    kept = λ r x lt m. let n = away r x lt m in record {
+      xmin = xmin-other x n;
+      xmax = refl;
+      next = next-other x n;
+      key = key-other p v (S .key) x n;
+      has = has-other p v (S .has) x n;
+    };
+    long = length-set (S .next) p q;
+    form = took-slots;
+    below = λ x. by (eqb x p)
+        (λ k. rw (eqb-true x p k, xmin-here) (R .mends .listed .past t a))
+        (λ k. rw (xmin-other x (eqb-false x p k)) (R .mends .below x));
+    off = took-off;
+  }) R

@@ -46,66 +46,38 @@ begin-clock why rests poisoned active clock e d =
 abbrev pub beginPuts : ℕ → List Put
 beginPuts clock = putEnter clock ∷ putClock (suc clock) ∷ []
 
+-- a transaction with this txid and snapshot, and the lists of z
+abbrev snapped : ℕ → ℕ → List ℕ → ℕ → Tx → Tx
+snapped clock oldest active count z = record {
+  txid = record { 0 = clock };
+  «snapshot_xmin» = record { 0 = oldest };
+  «snapshot_xmax» = record { 0 = clock };
+  snapshot = active;
+  «snapshot_count» = count;
+  writes = z .writes;
+  «write_count» = z .«write_count»;
+  reads = z .reads;
+  «read_count» = z .«read_count»;
+  «index_reads» = z .«index_reads»;
+  «index_read_count» = z .«index_read_count»;
+  «index_conflict» = z .«index_conflict»;
+  savepoints = z .savepoints;
+  «savepoint_count» = z .«savepoint_count»;
+}
+
 -- the transaction, from the fields of the store that it takes
 unfoldable pub begunOf : List ℕ → ℕ → Tx
-begunOf active clock =
-    let act = activeTxids active in
-    record {
-      txid = record { 0 = clock };
-      «snapshot_xmin» = record { 0 = getD act 0 clock };
-      «snapshot_xmax» = record { 0 = clock };
-      snapshot = active;
-      «snapshot_count» = length act;
-      writes = zeroTx .writes;
-      «write_count» = 0;
-      reads = zeroTx .reads;
-      «read_count» = 0;
-      «index_reads» = zeroTx .«index_reads»;
-      «index_read_count» = 0;
-      «index_conflict» = false;
-      savepoints = zeroTx .savepoints;
-      «savepoint_count» = 0;
-    }
+begunOf active clock = let act = activeTxids active in snapped clock (getD act 0 clock) active (length act) zeroTx
 
 -- as code makes it, from a zero transaction z
-pub begun-is : (active : List ℕ) (clock oldest count : ℕ) (z : Tx) → oldest ≡ getD (activeTxids (atActive active)) 0 clock → count ≡ length (activeTxids (atActive active)) → z ≡ zeroTx → length active ≡ activeLimit
-    → record {
-      txid = record { 0 = clock };
-      «snapshot_xmin» = record { 0 = oldest };
-      «snapshot_xmax» = record { 0 = clock };
-      snapshot = active;
-      «snapshot_count» = count;
-      writes = z .writes;
-      «write_count» = z .«write_count»;
-      reads = z .reads;
-      «read_count» = z .«read_count»;
-      «index_reads» = z .«index_reads»;
-      «index_read_count» = z .«index_read_count»;
-      «index_conflict» = z .«index_conflict»;
-      savepoints = z .savepoints;
-      «savepoint_count» = z .«savepoint_count»;
-    } ≡ begunOf active clock
-unfolding begunOf zeroTx onlyTxid
+pub begun-is : (active : List ℕ) (clock oldest count : ℕ) (z : Tx) → oldest ≡ getD (activeTxids (atActive active)) 0 clock
+    → count ≡ length (activeTxids (atActive active)) → z ≡ zeroTx → length active ≡ activeLimit → snapped clock oldest active count z ≡ begunOf active clock
+unfolding begunOf
 begun-is active clock oldest count z o n e long =
     let whole = array-same activeLimit 0 active long in
     let first : oldest ≡ getD (activeTxids active) 0 clock = rw whole at o in
     let many : count ≡ length (activeTxids active) = rw whole at n in
-    λ i. record {
-      txid = record { 0 = clock };
-      «snapshot_xmin» = record { 0 = first i };
-      «snapshot_xmax» = record { 0 = clock };
-      snapshot = active;
-      «snapshot_count» = many i;
-      writes = e i .writes;
-      «write_count» = e i .«write_count»;
-      reads = e i .reads;
-      «read_count» = e i .«read_count»;
-      «index_reads» = e i .«index_reads»;
-      «index_read_count» = e i .«index_read_count»;
-      «index_conflict» = e i .«index_conflict»;
-      savepoints = e i .savepoints;
-      «savepoint_count» = e i .«savepoint_count»;
-    }
+    λ i. snapped clock (first i) active (many i) (e i)
 
 -- lent, the active list is the store's
 pub begin-why : (S : Store) → Sized S → (rests : Bool) (why : Refusal) → rests ≡ resting S → why ≡ beginTries rests (S .poisoned) (atActive (S .active)) (S .clock)
@@ -128,5 +100,5 @@ module _ (S : Store) (why : Refusal) (e : why ≡ beginTries (resting S) (S .poi
   begin-refused d z = rw z (choose-refused done refused why _ e d ∙ answer)
 
   pub begin-done : {T : Store} {x : Tx} → isDone why ≡ true → T ≡ applyAll (beginPuts (S .clock)) S → x ≡ begunOf (S .active) (S .clock) → record { refusal = why; store = T; tx = x } ≡ begin S
-  unfolding begun begunOf
+  unfolding begun begunOf zeroTx onlyTxid
   begin-done d t x = (λ i. record { refusal = why; store = t i; tx = x i }) ∙ choose-done done refused why _ e d ∙ answer

@@ -5,8 +5,9 @@ use mathlib.Core.List.{List, [], _∷_, _++_}
 use Prim.Native.Nat.{ℕ, suc, _+_, _<_, _≤_}
 use native.Mathlib.Omega.{arith}
 use lib.ListN.{length, drop, length-drop}
-use lib.Dec.{eqb, leb, lit≤}
+use lib.Dec.{eqb, leb}
 use Rattle.records.specs.Limits.{rows, places, writeLimit}
+use Rattle.records.specs.Relations.{call-puts}
 use Rattle.rules.specs.Lists.{firstZero}
 use Rattle.basic_laws.specs.Cases.{by}
 use Rattle.rules.specs.Types.{Store, Tx, Value, Absent, Key, Written, Refusal, RowTooHigh, WritesFull, SlotsFull, Open}
@@ -43,8 +44,8 @@ free-placed xmin = omega (arith, zero-within 1 (drop 1 xmin), length-drop 1 xmin
 
 -- two puts or three
 pub takes-few : (p t q : ℕ) (v : Value) → length (takeSlot p t q v) ≤ putLimit
-takes-few p t q Absent = lit≤ tt
-takes-few p t q (Key k) = lit≤ tt
+takes-few p t q Absent = omega (arith, call-puts)
+takes-few p t q (Key k) = call-puts
 
 module _ (S : Store) (x : Tx) (r : ℕ) (v : Value) where
   abbrev free-at : ℕ

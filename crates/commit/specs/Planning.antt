@@ -1,49 +1,59 @@
 -- The plan of a commit and what strikes it, read off a store and a schedule.
-use mathlib.Core.Path.{_≡_, ap, _∙_}
+use mathlib.Core.Path.{_≡_, sym, ap, _∙_}
 use mathlib.Core.Bool.{Bool, true, false, _||_}
 use mathlib.Core.List.{List, [], _∷_, map}
 use Prim.Native.Nat.{ℕ, _≤_}
 use native.Mathlib.Omega.{arith}
-use lib.ListN.{length}
-use Rattle.records.specs.Limits.{rows, places, writeLimit}
+use lib.ListN.{length, getD, take}
+use Rattle.records.specs.Limits.{rows, places, stripes, activeLimit, writeLimit}
 use Rattle.records.specs.Zero.{noWrite}
 use Rattle.statements.specs.Sized.{Sized}
 use Rattle.rules.specs.Lists.{pad}
 use Rattle.rules.specs.Types.{Store, Tx, Schedule}
 use Rattle.rules.specs.Transaction.{finals}
-use Rattle.rules.specs.Chains.{Walk, walk}
-use Rattle.rules.specs.Faults.{F, X, Q, faultAt, faultsOf}
+use Rattle.rules.specs.Chains.{walk}
+use Rattle.rules.specs.Faults.{F, X, Q}
 use Rattle.rules.specs.Fit.{fit}
 use Rattle.rules.specs.Commit.{count, strikes, runOf}
 use Rattle.run_laws.specs.Gates.{gates}
 use Rattle.journal.specs.Journal.{Holds}
 use Rattle.journal.specs.Adds.{Adds}
-use Rattle.fields.specs.Walked.{walk-long}
-use Rattle.fields.specs.Lent.{array, array-same, atRows, atPlaces}
+use Rattle.fields.specs.Walked.{marks-array}
+use Rattle.fields.specs.Lent.{array-same, atRows, atPlaces, flagsAtPlaces}
 use Rattle.commit_tests.specs.declared.finals.Finals.{Finals}
-use Rattle.commit_tests.specs.Striking.{struckBy}
-use Rattle.steps.specs.Stops.{firstTrue, cleanGate, gateOf}
+use Rattle.commit_tests.specs.declared.faults.Letters.{Letters}
+use Rattle.commit_tests.specs.Conflicts.{Lends}
+use Rattle.commit_tests.specs.Striking.{letters, letterAt, countAt, letters-say, counts-say}
+use Rattle.steps.specs.GateTable.{cleanGate}
+use Rattle.steps.specs.Stops.{firstTrue, letterIn, hits, gateOf}
 use Rattle.steps.specs.RunFound.{run-puts}
 use Rattle.commit_tests.specs.FinalTurns.{finalsLaid}
 use Rattle.commit.specs.declared.plan.run.Struck.{Struck}
 use Rattle.commit.specs.declared.plan.run.Plan.{Plan}
 use Rattle.commit.specs.Plan.Parts.{putsAt}
-use Rattle.commit.specs.Plan.Planned.{planOf, struckOf, Planned}
+use Rattle.commit.specs.Plan.Planned.{planOf, planFrom, struckOf, Planned, finals-taken, plan-is}
 use Rattle.commit.specs.Plan.Held.{run-held}
 
--- a lent array of its type's length holds what its list does
-pub whole {ℓ} : {A : Type ℓ} (n : ℕ) (z : A) {l m : List A} → l ≡ m → length m ≡ n → array n z l ≡ m
-whole n z {m = m} e h = ap (array n z) e ∙ array-same n z m h
+-- a store lends its own fields
+pub lends-own : (S : Store) → Sized S → Lends S (S .stamps) (S .heads) (S .locked) (S .owner) (S .active) (S .xmin) (S .xmax)
+lends-own S z = record {
+  stamps = sym (array-same stripes 0 (S .stamps) (z .stamps));
+  heads = sym (array-same rows 0 (S .heads) (z .heads));
+  locked = sym (array-same places false (S .locked) (z .locked));
+  owner = sym (array-same places 0 (S .owner) (z .owner));
+  active = sym (array-same activeLimit 0 (S .active) (z .active));
+  xmin = sym (array-same places 0 (S .xmin) (z .xmin));
+  xmax = sym (array-same places 0 (S .xmax) (z .xmax));
+}
 
 -- the marks of the walk
-pub marks-are : (S : Store) → Sized S → {heads next seen : List ℕ} {ok : Bool} → heads ≡ S .heads → next ≡ S .next
-    → _≡_ {A = Walk} (record { ok = ok; seen = seen }) (walk (atRows heads) (atPlaces next)) → atPlaces seen ≡ walk (S .heads) (S .next) .seen
-marks-are S z {seen = seen} h n e =
-    let w : seen ≡ walk (S .heads) (S .next) .seen = ap (λ (v : Walk). v .seen) e ∙ rw (h, n, array-same rows 0 (S .heads) (z .heads), array-same places 0 (S .next) (z .next)) in
-    whole places 0 w (walk-long (S .heads) (S .next))
+marks-are : (S : Store) → Sized S → {seen : List ℕ} → seen ≡ walk (atRows (S .heads)) (atPlaces (S .next)) .seen
+    → atPlaces seen ≡ walk (S .heads) (S .next) .seen
+marks-are S z {seen} e =
+    marks-array (S .heads) (S .next) seen (e ∙ rw (array-same rows 0 (S .heads) (z .heads), array-same places 0 (S .next) (z .next)))
 
 -- the final writes laid out
-pub laid-at : (x : Tx) {f : Finals} → f ≡ finalsLaid x → f .at ≡ pad writeLimit noWrite (finals x)
+laid-at : (x : Tx) {f : Finals} → f ≡ finalsLaid x → f .at ≡ pad writeLimit noWrite (finals x)
 unfolding finalsLaid
 laid-at x e = ap (λ (g : Finals). g .at) e
 
@@ -51,18 +61,44 @@ pub laid-count : (x : Tx) {f : Finals} → f ≡ finalsLaid x → f .count ≡ l
 unfolding finalsLaid
 laid-count x e = ap (λ (g : Finals). g .count) e
 
--- what strikes, part by part
-module _ (S : Store) (x : Tx) (logged : Bool) (plan : Schedule) where
-  abbrev kOf : ℕ → ℕ
-  kOf n = faultAt n (faultsOf plan) .k
+pub laid-taken : (S : Store) (x : Tx) → fit S x ≡ true → {f : Finals} → f ≡ finalsLaid x → take (f .count) (f .at) ≡ finals x
+laid-taken S x ok e = rw (laid-at x e, laid-count x e) (finals-taken S x ok)
 
-  pub struck-is : {k15 k17 k18 k19 k22 k24 : ℕ} {f21 f23 f24 sour poisoned : Bool}
-      → k15 ≡ kOf 15 → k17 ≡ kOf 17 → k18 ≡ kOf 18 → k19 ≡ kOf 19 → k22 ≡ kOf 22 → k24 ≡ kOf 24
-      → f21 ≡ struckBy plan 21 F → f23 ≡ struckBy plan 23 F → f24 ≡ struckBy plan 24 F → sour ≡ (struckBy plan 16 X || struckBy plan 16 Q) → poisoned ≡ S .poisoned
-      → _≡_ {A = Struck} (record { inserted = k15; removed = k17; published = k18; recycled = k19; stamped = k22; rolled = k24; finish = f21; abort = f23; rollback = f24; worse = sour; poisoned = poisoned }) (struckOf S x logged plan)
-  unfolding struckOf count strikes struckBy
-  struck-is a b c d e f g h i l m n =
-      record { inserted = a n; removed = b n; published = c n; recycled = d n; stamped = e n; rolled = f n; finish = g n; abort = h n; rollback = i n; worse = l n; poisoned = m n }
+-- the plan from the store's arrays, the marks of its walk and the final writes is the commit's
+pub plan-told : (S : Store) (x : Tx) → Sized S → fit S x ≡ true → {p : Plan} {f : Finals} {seen : List ℕ} → f ≡ finalsLaid x
+    → seen ≡ walk (atRows (S .heads)) (atPlaces (S .next)) .seen
+    → p ≡ planFrom (atPlaces (S .key)) (flagsAtPlaces (S .has)) (atPlaces (S .xmin)) (atPlaces seen) x (f .at) (f .count) → p ≡ planOf S x
+plan-told S x z ok laid marks e =
+    e
+    ∙ plan-is x _ _ _ _ _ _ S
+    (array-same places 0 (S .key) (z .key))
+    (array-same places false (S .has) (z .has))
+    (array-same places 0 (S .xmin) (z .xmin))
+    (marks-are S z marks)
+    (laid-at x laid)
+    (laid-count x laid)
+    ok
+
+-- what strikes, by the letter and the k of each step
+abbrev pub struckBy : (ℕ → ℕ) → (ℕ → ℕ) → Bool → Struck
+struckBy letter k poisoned = record {
+  inserted = k 15;
+  removed = k 17;
+  published = k 18;
+  recycled = k 19;
+  stamped = k 22;
+  rolled = k 24;
+  finish = hits letter 21 F;
+  abort = hits letter 23 F;
+  rollback = hits letter 24 F;
+  worse = hits letter 16 X || hits letter 16 Q;
+  poisoned = poisoned;
+}
+
+pub struck-is : (S : Store) (x : Tx) (logged : Bool) (plan : Schedule) {l : Letters} {poisoned : Bool} → l ≡ letters plan → poisoned ≡ S .poisoned
+    → struckBy (letterIn l) (λ n. getD (l .counts) n 0) poisoned ≡ struckOf S x logged plan
+unfolding struckOf count strikes letterAt countAt
+struck-is S x logged plan {l} is p = λ i. struckBy (letters-say plan l is i) (counts-say plan l is i) (p i)
 
 -- the gate is one of them, or the clean run after them
 first-few : (bs : List Bool) → firstTrue bs ≤ length bs

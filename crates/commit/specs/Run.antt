@@ -4,7 +4,7 @@ use mathlib.Core.Bool.{Bool}
 use mathlib.Core.List.{List}
 use Prim.Native.Nat.{ℕ, _<_, _≤_, min}
 use native.Mathlib.Omega.{arith}
-use lib.ListN.{length, getD, take}
+use lib.ListN.{length, take}
 use lib.Seq.{take-all}
 use lib.Dec.{ltb, leb}
 use borrow.Author.Tests.{lt-ltb, le-ltb}
@@ -16,10 +16,12 @@ use Rattle.rules.specs.Commit.{runOf}
 use Rattle.rules.specs.Answer.{noEvents, noRecord, uncut, cutOff, answer}
 use Rattle.journal.specs.Journal.{putLimit, puts, Holds}
 use Rattle.journal.specs.Holds.{holds-count, holds-cut}
+use Rattle.commit_tests.specs.declared.faults.Letters.{Letters}
 use Rattle.commit_tests.specs.Striking.{letters}
-use Rattle.steps.specs.Stops.{cleanGate, letterIn, gateOf}
+use Rattle.steps.specs.GateTable.{cleanGate, numberAt, passedAt, leftAt}
+use Rattle.steps.specs.Stops.{letterIn, gateOf}
 use Rattle.steps.specs.RecordAndEvents.{recordIf, eventsBy}
-use Rattle.steps.specs.Ends.{gateNumbers, gatePassed, gateLeft, endingFor, txFor}
+use Rattle.steps.specs.Ends.{endingFor, txFor}
 use Rattle.steps.specs.RunFound.{answered}
 
 -- how many of n stores are made
@@ -32,15 +34,15 @@ unfoldable pub cutAnswer : Store → ℕ → Answer
 cutAnswer T n = record { refusal = CutOff Closed; «record» = noRecord; store = T; tx = zeroTx; events = noEvents; stores = n }
 
 -- all n stores made, by the gate
-unfoldable pub wholeAnswer : Store → Tx → Bool → Bool → Schedule → ℕ → ℕ → Answer
-wholeAnswer T x logged bound plan g n =
-    let a = endingFor (letterIn (letters plan)) (getD gateNumbers g 0) in
+unfoldable pub wholeAnswer : Store → Tx → Bool → Bool → Letters → ℕ → ℕ → Answer
+wholeAnswer T x logged bound l g n =
+    let a = endingFor (letterIn l) (numberAt g) in
     record {
       refusal = a .refusal;
       «record» = recordIf (leb cleanGate g) x;
       store = T;
-      tx = txFor (letterIn (letters plan)) x (getD gateLeft g 4);
-      events = eventsBy logged bound (ltb 0 (length (finals x))) (getD gatePassed g 23) a;
+      tx = txFor (letterIn l) x (leftAt g);
+      events = eventsBy logged bound (ltb 0 (length (finals x))) (passedAt g) a;
       stores = n;
     }
 
@@ -83,15 +85,15 @@ module _ (S : Store) (x : Tx) (logged : Bool) (plan : Schedule) (cut : Cut) {j :
       ∙ (λ i. record { refusal = CutOff Closed; «record» = noRecord; store = applied S holds (within cut stop) stored i; tx = zeroTx; events = noEvents; stores = m })
       ∙ cut-is cut stop l
 
-  pub run-whole : {a : Answer} (g : ℕ) → g ≡ gateOf S x logged plan → a ≡ wholeAnswer T x logged (S .bound) plan g n → n ≤ m → a ≡ answer S x logged (runOf S x logged plan) cut
+  pub run-whole : {a : Answer} (g : ℕ) → g ≡ gateOf S x logged plan → (l : Letters) → l ≡ letters plan → a ≡ wholeAnswer T x logged (S .bound) l g n → n ≤ m → a ≡ answer S x logged (runOf S x logged plan) cut
   unfolding wholeAnswer
-  run-whole g at e l =
-      let p = letterIn (letters plan) in
-      let d = endingFor p (getD gateNumbers g 0) in
+  run-whole g at l is e all-made =
+      let p = letterIn l in
+      let d = endingFor p (numberAt g) in
       let few = within cut stop in
       let all : T ≡ applyAll (runOf S x logged plan .puts) S = applied S holds few stored ∙ ap (λ (qs : List Put). applyAll qs S) (take-all m (runOf S x logged plan .puts) (omega (arith, count))) in
       let made = count in
       e
-      ∙ (λ i. record { refusal = d .refusal; «record» = recordIf (leb cleanGate g) x; store = all i; tx = txFor p x (getD gateLeft g 4); events = eventsBy logged (S .bound) (ltb 0 (length (finals x))) (getD gatePassed g 23) d; stores = made i })
-      ∙ sym (answered S x logged plan g at (letters plan) refl d refl (txFor p x (getD gateLeft g 4)) refl)
-      ∙ whole-is cut stop l
+      ∙ (λ i. record { refusal = d .refusal; «record» = recordIf (leb cleanGate g) x; store = all i; tx = txFor p x (leftAt g); events = eventsBy logged (S .bound) (ltb 0 (length (finals x))) (passedAt g) d; stores = made i })
+      ∙ sym (answered S x logged plan g at l is d refl (txFor p x (leftAt g)) refl)
+      ∙ whole-is cut stop all-made

@@ -2,22 +2,22 @@
 
 ghost use mathlib.Core.Path.{_≡_};
 ghost use Rattle.rules.specs.Answer.{unchanged};
+ghost use Rattle.commit_tests.specs.FinalTurns.{finalsLaid};
 ghost use Rattle.commit.specs.Run.{stopAt, cutAnswer, wholeAnswer};
-use commit_tests::faults::letters_of;
-use commit_tests::finals::has_writes;
+use commit_tests::faults::Letters;
+use commit_tests::finals::Finals;
 use steps::answers::events_of;
 use steps::answers::record_of;
 use steps::ends::ending_at;
-use steps::ends::passed_at;
 use steps::ends::tx_left;
-use steps::gates;
+use steps::gate::Gate;
+use steps::gate::passed_at;
 use steps::none::no_events;
 use steps::none::no_record;
 use records::Answer;
 use records::Cut;
 use records::Fate;
 use records::Refusal;
-use records::Schedule;
 use records::Store;
 use records::Tx;
 use fields::lent::clipped;
@@ -69,21 +69,20 @@ pub fn cut_answer(t: Store, n: usize) -> Answer
 pub fn whole_answer(
     t: Store,
     x: Tx,
+    finals: Finals,
     logged: bool,
     bound: bool,
-    plan: Schedule,
+    l: Letters,
     g: usize,
     n: usize,
 ) -> Answer
-    ensures { λ r. ⌜ r ≡ wholeAnswer t x logged bound plan g n ⌝ }
+    ensures { λ r. ⌜ (finals ≡ finalsLaid x → r ≡ wholeAnswer t x logged bound l g n) ⌝ }
 {
-    let l = letters_of(plan);
     let end = ending_at(g, l);
     let y = tx_left(g, l, x);
-    let record = record_of(gates::CLEAN <= g, x);
-    let writing = has_writes(x);
+    let record = record_of(Gate::CLEAN <= g, x, finals);
     let passed = passed_at(g);
-    let events = events_of(logged, bound, writing, passed, end);
+    let events = events_of(logged, bound, 0 < finals.count, passed, end);
     let why = end.refusal;
     Answer {
         refusal: why,

@@ -2,32 +2,46 @@
 
 ghost use mathlib.Core.Path.{_≡_};
 ghost use mathlib.Core.Bool.{true};
+ghost use Rattle.rules.specs.Chains.{walk};
 ghost use Rattle.rules.specs.Fit.{fit};
 ghost use Rattle.rules.specs.Commit.{runOf};
 ghost use Rattle.rules.specs.Answer.{answer};
+ghost use Rattle.fields.specs.Lent.{atRows, atPlaces};
 use super::answers;
+use super::plan::run::plan_of;
 use super::plan::run::push_run;
 use super::planning;
-use commit_tests::finals::has_writes;
+use commit_tests::faults::letters_of;
+use commit_tests::finals::final_writes;
 use journal::Journal;
 use steps::first::first_gate;
 use records::Answer;
 use records::Cut;
 use records::Schedule;
+use records::SlotPtr;
 use records::Store;
 use records::Tx;
 
-// The answer of the steps; a cut only makes fewer of the stores.
-pub fn run(s: Store, x: Tx, logged: bool, plan: Schedule, cut: Cut) -> Answer
-    ensures { λ r. ⌜ (fit s x ≡ true → r ≡ answer s x logged (runOf s x logged plan) cut) ⌝ }
+// The answer of the steps, by the marks of the admission's walk; a cut only makes fewer of the stores.
+pub fn run(
+    s: Store,
+    x: Tx,
+    logged: bool,
+    plan: Schedule,
+    cut: Cut,
+    seen: &[u8; SlotPtr::PLACES],
+) -> Answer
+    ensures { λ r. ⌜ (now (seen .entry) ≡ walk (atRows (s .heads)) (atPlaces (s .next)) .seen → fit s x ≡ true → r ≡ answer s x logged (runOf s x logged plan) cut) ⌝ }
 {
-    let p = planning::plan_for(&s.heads, &s.next, &s.xmin, &s.key, &s.has, x);
-    let q = planning::struck_of(plan, s.poisoned);
-    let writing = has_writes(x);
+    let l = letters_of(plan);
+    let finals = final_writes(x);
+    let at = finals.at;
+    let p = plan_of(&s.key, &s.has, &s.xmin, seen, x, at, finals.count);
+    let q = planning::struck_of(l, s.poisoned);
     let g = first_gate(
-        plan,
+        l,
         logged,
-        writing,
+        0 < finals.count,
         s.bound,
         s.poisoned,
         &s.stamps,
@@ -38,6 +52,7 @@ pub fn run(s: Store, x: Tx, logged: bool, plan: Schedule, cut: Cut) -> Answer
         &s.xmin,
         &s.xmax,
         x,
+        finals,
     );
     let mut j = [0; Journal::WORDS];
     let n = push_run(p, q, g, &mut j, 0);
@@ -47,5 +62,5 @@ pub fn run(s: Store, x: Tx, logged: bool, plan: Schedule, cut: Cut) -> Answer
     if m < n {
         return answers::cut_answer(t, m);
     }
-    answers::whole_answer(t, x, logged, bound, plan, g, n)
+    answers::whole_answer(t, x, finals, logged, bound, l, g, n)
 }

@@ -7,16 +7,14 @@ use native.Mathlib.Omega.{arith}
 use native.Mathlib.Nat.{add-zero}
 use lib.ListN.{length, getD, set, take, drop, length-drop}
 use lib.Seq.{getD-drop, drop-drop, take-all}
-use lib.Dec.{eqb, ltb}
-use borrow.Author.Tests.{lt-ltb, ltb-true, ltb-false}
+use lib.Dec.{eqb}
 use Rattle.records.specs.Limits.{writeLimit}
 use Rattle.records.specs.Zero.{noWrite}
 use Rattle.rules.specs.Lists.{any, pad}
-use Rattle.basic_laws.specs.Cases.{by}
 use Rattle.rules.specs.Types.{Tx, Write}
-use Rattle.rules.specs.Transaction.{writesOf, finalWrites, finals}
+use Rattle.rules.specs.Transaction.{finalWrites, finals}
 use Rattle.commit_tests.specs.declared.finals.Finals.{Finals}
-use Rattle.fields.specs.First.{firstFrom, first-next}
+use Rattle.fields.specs.First.{firstFrom}
 use Rattle.fields.specs.Pad.{pad-more}
 
 -- the final writes laid out in an array, with their number
@@ -29,11 +27,11 @@ ofRow r v = eqb (v .row .0) r
 
 -- one write w more, before others: it is final if none of them is of its row
 module _ (w : Write) (l ws : List Write) (next : l ≡ w ∷ ws) where
-  pub final-here : any (ofRow (w .row .0)) ws ≡ false → finalWrites l ≡ w ∷ finalWrites ws
+  final-here : any (ofRow (w .row .0)) ws ≡ false → finalWrites l ≡ w ∷ finalWrites ws
   unfolding ofRow
   final-here e = rw (next, e)
 
-  pub final-later : any (ofRow (w .row .0)) ws ≡ true → finalWrites l ≡ finalWrites ws
+  final-later : any (ofRow (w .row .0)) ws ≡ true → finalWrites l ≡ finalWrites ws
   unfolding ofRow
   final-later e = rw (next, e)
 
@@ -86,24 +84,3 @@ laid-all x i count at so over =
     let all : count ≡ length (finals x) = omega arith in
     let at-all : at ≡ pad writeLimit noWrite (finals x) = so .laid ∙ ap (pad writeLimit noWrite) (take-all count (finals x) (omega arith)) in
     λ j. record { at = at-all j; count = all j }
-
--- a list of writes has a final one: the last of them is
-some-final : (w : Write) (ws : List Write) → 0 < length (finalWrites (w ∷ ws))
-unfolding ofRow
-some-final w [] = omega arith
-some-final w (v ∷ vs) =
-    let some = some-final v vs in
-    by (any (ofRow (w .row .0)) (v ∷ vs))
-    (λ e. rw e some)
-    (λ e. rw e (omega arith))
-
--- so there are final writes exactly where there are writes
-pub written : (x : Tx) → length (x .writes) ≡ writeLimit → ltb 0 (x .«write_count») ≡ ltb 0 (length (finals x))
-unfolding finals firstFrom
-written x long =
-    by (ltb 0 (x .«write_count»))
-    (λ e.
-    let some = ltb-true 0 (x .«write_count») e in
-    let next = first-next (x .«write_count») (x .writes) 0 noWrite (omega arith) in
-    e ∙ sym (lt-ltb 0 (length (finalWrites (writesOf x))) (rw next (some-final (getD (x .writes) 0 noWrite) (firstFrom (x .«write_count») (x .writes) (0 + 1))))))
-    (λ e. let none : x .«write_count» ≡ 0 = omega (arith, ltb-false) in rw none)

@@ -1,11 +1,13 @@
-// The four tests of commit, each to the first yes.
+// The four tests of commit, each to the first yes: what the definition says of every store that has the lent arrays.
 
 ghost use mathlib.Core.Path.{_≡_};
 ghost use lib.ListN.{take};
-ghost use Rattle.rules.specs.Tests.{indexReadConflict, serializationConflict, writeBaseConflict};
+ghost use Rattle.rules.specs.Types.{Store};
+ghost use Rattle.rules.specs.Lists.{any};
+ghost use Rattle.rules.specs.Tests.{indexReadConflict, rowLockConflict, serializationConflict};
 ghost use Rattle.fields.specs.Lent.{atRows, atPlaces, flagsAtPlaces, atActive, atStripes};
-ghost use Rattle.commit_tests.specs.Conflicts.{rowLockConflictOf, readConflictOf};
-use super::finals::unwritten_from;
+ghost use Rattle.commit_tests.specs.Conflicts.{readConflictOf, baseMoved};
+use super::finals::Finals;
 use records::ReadRecord;
 use records::RowId;
 use records::SlotPtr;
@@ -21,7 +23,7 @@ use fields::txids::in_snapshot;
 
 // 11: index_conflict is set or a recorded stamp differs.
 pub fn index_read_conflict(stamps: &[u64; Store::STRIPES], x: Tx) -> bool
-    ensures { λ r. ⌜ r ≡ indexReadConflict (atStripes (now (stamps .entry))) x ⌝ }
+    ensures { λ r. ⌜ ((S : Store) → S .stamps ≡ atStripes (now (stamps .entry)) → r ≡ indexReadConflict S x) ⌝ }
 {
     if x.index_conflict {
         return true;
@@ -47,7 +49,7 @@ pub fn has_row_lock_conflict<'a>(
     active: &'a [u64; Txid::ACTIVE],
     x: Tx,
 ) -> bool
-    ensures { λ r. ⌜ r ≡ rowLockConflictOf (atRows (now (heads .entry))) (flagsAtPlaces (now (locked .entry))) (atPlaces (now (owner .entry))) (atActive (now (active .entry))) x ⌝ }
+    ensures { λ r. ⌜ ((S : Store) → S .heads ≡ atRows (now (heads .entry)) → S .locked ≡ flagsAtPlaces (now (locked .entry)) → S .owner ≡ atPlaces (now (owner .entry)) → S .active ≡ atActive (now (active .entry)) → r ≡ rowLockConflict S x) ⌝ }
 {
     let n = clipped(x.write_count, Tx::WRITES);
     let mut i: usize = 0;
@@ -97,7 +99,7 @@ pub fn has_serialization_conflict<'a>(
     xmax: &'a [u64; SlotPtr::PLACES],
     x: Tx,
 ) -> bool
-    ensures { λ r. ⌜ r ≡ serializationConflict (atPlaces (now (xmin .entry))) (atPlaces (now (xmax .entry))) x ⌝ }
+    ensures { λ r. ⌜ ((S : Store) → S .xmin ≡ atPlaces (now (xmin .entry)) → S .xmax ≡ atPlaces (now (xmax .entry)) → r ≡ serializationConflict S x) ⌝ }
 {
     let n = clipped(x.read_count, Tx::READS);
     let mut i: usize = 0;
@@ -120,21 +122,18 @@ pub fn has_serialization_conflict<'a>(
 }
 
 // 14: a final write's base is not the head.
-pub fn has_write_base_conflict(heads: &[u32; RowId::ROWS], x: Tx) -> bool
-    ensures { λ r. ⌜ r ≡ writeBaseConflict (atRows (now (heads .entry))) x ⌝ }
+pub fn has_write_base_conflict(heads: &[u32; RowId::ROWS], finals: Finals) -> bool
+    ensures { λ r. ⌜ r ≡ any (baseMoved (atRows (now (heads .entry)))) (take (finals .count) (finals .at)) ⌝ }
 {
-    let n = clipped(x.write_count, Tx::WRITES);
-    let writes = x.writes;
+    let n = clipped(finals.count, Tx::WRITES);
     let mut i: usize = 0;
     while i < n {
-        let w = writes[i];
-        i += 1;
-        if unwritten_from(writes, x.write_count, i, w.row) {
-            let head = head_of(heads, w.row);
-            if head.0 != w.base.0 {
-                return true;
-            }
+        let w = finals.at[i];
+        let head = head_of(heads, w.row);
+        if head.0 != w.base.0 {
+            return true;
         }
+        i += 1;
     }
     false
 }

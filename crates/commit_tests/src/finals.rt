@@ -2,10 +2,7 @@
 
 ghost use mathlib.Core.Path.{_≡_};
 ghost use mathlib.Core.Bool.{not};
-ghost use lib.ListN.{length};
-ghost use lib.Dec.{ltb};
 ghost use Rattle.rules.specs.Lists.{any};
-ghost use Rattle.rules.specs.Transaction.{finals};
 ghost use Rattle.fields.specs.First.{firstFrom};
 ghost use Rattle.commit_tests.specs.FinalTurns.{ofRow, finalsLaid};
 use records::RowId;
@@ -20,12 +17,7 @@ pub struct Finals {
 }
 
 // No write from a place on is of the row.
-pub(crate) fn unwritten_from(
-    writes: [Write; Tx::WRITES],
-    count: usize,
-    from: usize,
-    row: RowId,
-) -> bool
+fn unwritten_from(writes: [Write; Tx::WRITES], count: usize, from: usize, row: RowId) -> bool
     ensures { λ b. ⌜ b ≡ not (any (ofRow (row .0)) (firstFrom count writes from)) ⌝ }
 {
     let n = clipped(count, Tx::WRITES);
@@ -60,11 +52,4 @@ pub fn final_writes(x: Tx) -> Finals
         at: at,
         count: count,
     }
-}
-
-// There are final writes where there are writes.
-pub fn has_writes(x: Tx) -> bool
-    ensures { λ b. ⌜ b ≡ ltb 0 (length (finals x)) ⌝ }
-{
-    0 < x.write_count
 }

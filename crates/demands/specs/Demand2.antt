@@ -19,12 +19,13 @@ use Rattle.rules.specs.Admitted.{headPostings, resting}
 use Rattle.rules.specs.Numbers.{numberOf, isDone}
 use Rattle.rules.specs.Puts.{kStripe, kPartition, kInsert, kRemove, kXmax, kHead, kFree, kDrop, kStamp, kPoison, kDoom, putDrop, applyAll}
 use Rattle.rules.specs.Calls.{abort}
+use Rattle.rules.specs.Tests.{conflicting}
 use Rattle.rules.specs.Changes.{release, insertions, removals, publication, recycling, stamping}
 use Rattle.rules.specs.Commit.{runOf, fails, unloggedWrites}
 use Rattle.rules.specs.Answer.{uncut, commit}
 use Rattle.basic_laws.specs.Cases.{clash, by, or-left}
 use Rattle.run_laws.specs.OnlyKinds.{only, only-both, kept, is-not}
-use Rattle.run_laws.specs.Outcome.{conflicting, guardsTaken, afterInsert, afterRemove, afterPublish, afterRecycle, afterFinish, afterStamp, outcome}
+use Rattle.run_laws.specs.Outcome.{guardsTaken, afterInsert, afterRemove, afterPublish, afterRecycle, afterFinish, afterStamp, outcome}
 use Rattle.statements.specs.Demands.{Demand2, Demand2Aborts, Demand2Abort}
 use Rattle.statements.specs.Words.{Conflicts, Committed, Admitted, shown, stands, Freed, abortedNumber, rowValue}
 use Rattle.run_laws.specs.FourTests.{either, index-reads-say, row-locks-say, serialization-says, write-bases-say}
@@ -77,23 +78,23 @@ module _ (S : Store) (x : Tx) (logged : Bool) (plan : Schedule) where
       rw (u, only-done S x logged plan _ _ _ (outcome S x logged plan) (rw u at d) .0)
       (kept (λ T. T .poisoned) clean (λ p T m. rw (is-not clean kPoison refl p m, is-not clean kDoom refl p m)) ps S clean-run ∙ h)
 
-  conflicts-say : (conflicting S x logged plan ≡ true) ↔ Conflicts S x
+  conflicts-say : (conflicting S x ≡ true) ↔ Conflicts S x
   conflicts-say =
-      either _ _ (index-reads-say (S .stamps) x) (either _ _ (row-locks-say S x) (either _ _ (serialization-says (S .xmin) (S .xmax) x) (write-bases-say (S .heads) x)))
+      either _ _ (index-reads-say S x) (either _ _ (row-locks-say S x) (either _ _ (serialization-says S x) (write-bases-say S x)))
 
   module _ (z : Sized S) (k : Keyed S) (ok : Admitted S x plan) (quiet : plan .count ≡ 0) (sound : S .poisoned ≡ false) (free : (unloggedWrites S x logged plan && S .bound) ≡ false) where
     abbrev pub A : Answer
     A = commit S x logged plan Uncut
 
     -- the number
-    pub number : numberOf (A .refusal) ≡ cond (conflicting S x logged plan) 7 0
+    pub number : numberOf (A .refusal) ≡ cond (conflicting S x) 7 0
     number = success S x logged plan ok quiet sound free
 
     -- number 0 exactly when the four tests all say no
     succeeds : (numberOf (A .refusal) ≡ 0) ↔ (Conflicts S x → ⊥)
     succeeds = (
       (λ h c. absurd (omega (arith, rw (conflicts-say .1 c, h) at (sym number)))),
-      (λ no-one. by (conflicting S x logged plan) (λ e. absurd (no-one (conflicts-say .0 e))) (λ e. rw e at number)),
+      (λ no-one. by (conflicting S x) (λ e. absurd (no-one (conflicts-say .0 e))) (λ e. rw e at number)),
     )
 
     -- the store is that of the whole run

@@ -3,9 +3,10 @@
 use mathlib.Core.Path.{_≡_, refl, ap}
 use mathlib.Core.Bool.{true, false}
 use mathlib.Core.List.{List, [], _∷_, _++_}
-use Prim.Native.Nat.{ℕ}
+use Prim.Native.Nat.{ℕ, suc}
 use lib.ListN.{length, getD, replicate}
-use Rattle.records.specs.Limits.{rows, slots, places, postingLimit, stripes, partitions, activeLimit, readLimit, clockEnd}
+use Rattle.records.specs.Limits.{rows, slots, places, postingLimit, stripes, partitions, activeLimit, writeLimit, readLimit, clockEnd}
+use Rattle.records.specs.Setters.{slotted, relisted}
 use Rattle.records.specs.Zero.{fresh, noFaults}
 use Rattle.rules.specs.Lists.{memb, pad}
 use Rattle.rules.specs.Types.{Store, Tx, Cut, Uncut, After, Value, Absent, Key}
@@ -95,21 +96,23 @@ lastNumber ls = morning start ls .out .number
 abbrev clockAt : ℕ → Store
 clockAt n = applyAll (putClock n ∷ []) fresh
 
--- 32 reads of slot 2, where slot 1 is to be read
+-- as many reads as there may be, of slot 2, where slot 1 is to be read
 abbrev fullReads : Tx
 fullReads = withReads (replicate readLimit (record { row = record { 0 = 0 }; ptr = record { 0 = 2 }; xmin = record { 0 = 0 } })) (txOf (done ++ lineB 0 ∷ []))
 
 -- every slot is used by the active txid 1
 abbrev noSlot : Store
-noSlot = record { heads = fresh .heads; xmin = 0 ∷ replicate slots 1; xmax = fresh .xmax; next = fresh .next; key = fresh .key; has = fresh .has; locked = fresh .locked; owner = fresh .owner; postings = fresh .postings; «posting_count» = 0; «stripe_guards» = fresh .«stripe_guards»; «partition_guards» = fresh .«partition_guards»; stamps = fresh .stamps; active = pad activeLimit 0 (1 ∷ []); clock = 2; poisoned = false; doomed = 0; bound = false }
+noSlot =
+    relisted (pad activeLimit 0 (1 ∷ [])) 2
+    (slotted (0 ∷ replicate slots 1) (fresh .xmax) (fresh .next) (fresh .key) (fresh .has) (fresh .locked) (fresh .owner) fresh)
 
 pub other-numbers :
     numberOf (recover (clockAt 0) .refusal)
-    ∷ lastNumber (replicate 17 (lineB 0))
+    ∷ lastNumber (replicate (suc activeLimit) (lineB 0))
     ∷ numberOf (begin (clockAt clockEnd) .refusal)
     ∷ lastNumber (lineB 0 ∷ lineR 0 rows ∷ [])
     ∷ numberOf (read (storeOf (done ++ lineB 0 ∷ [])) fullReads 3 .refusal)
-    ∷ lastNumber (lineB 0 ∷ replicate 17 (lineW 0 3 (Key 35)))
+    ∷ lastNumber (lineB 0 ∷ replicate (suc writeLimit) (lineW 0 3 (Key 35)))
     ∷ numberOf (write (begin noSlot .store) (begin noSlot .tx) 3 Absent .refusal)
     ∷ lastNumber (done ++ lineB 0 ∷ lineB 1 ∷ lineK 0 3 ∷ lineK 1 3 ∷ [])
     ∷ lastNumber (lineB 0 ∷ lineK 0 3 ∷ [])

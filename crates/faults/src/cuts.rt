@@ -2,15 +2,16 @@
 
 use super::bench::Bench;
 use super::print;
+use super::recovered::sight_of;
 use super::shown;
-use super::shown::sight_of;
 use commit::commit;
+use journal::Journal;
 use script::refusal::number_of;
 use records::Cut;
 use records::Schedule;
 
-// More than any commit makes.
-const MOST: usize = 1000;
+// As many as any commit makes.
+const MOST: usize = Journal::PUTS;
 
 fn counted(stores: usize) -> u32 {
     if stores < MOST {

@@ -5,18 +5,22 @@ mod bench;
 mod cuts;
 mod fate;
 mod print;
+mod recovered;
 mod row;
 mod shown;
 mod trial;
 mod tries;
 
 use bench::Bench;
+use records::Schedule;
+
+const STEPS: u32 = Schedule::STEPS as u32;
 
 // All steps, unlogged or logged.
 fn try_mode(b: Bench, logged: bool) {
     row::row(b, logged, trial::none());
     let mut step: u32 = 1;
-    while step <= 24 {
+    while step <= STEPS {
         tries::try_step(b, logged, step);
         step += 1;
     }

@@ -3,8 +3,8 @@
 use super::bench::Bench;
 use super::cuts::write_cuts;
 use super::print;
+use super::recovered::sight_of;
 use super::shown;
-use super::shown::sight_of;
 use super::trial::Trial;
 use super::trial::schedule_of;
 use commit::commit;

@@ -1,9 +1,5 @@
 // What the rows show.
 
-use super::bench::Bench;
-use recovery::recover;
-use resting::rest::resting;
-use script::refusal::number_of;
 use visibility::slots::value_at;
 use records::RowId;
 use records::SlotPtr;
@@ -58,29 +54,9 @@ fn same(a: [u64; RowId::ROWS], b: [u64; RowId::ROWS]) -> bool {
     true
 }
 
-fn compared(rows: [u64; RowId::ROWS], old: [u64; RowId::ROWS], new: [u64; RowId::ROWS]) -> u8 {
+pub fn compared(rows: [u64; RowId::ROWS], old: [u64; RowId::ROWS], new: [u64; RowId::ROWS]) -> u8 {
     if same(rows, old) {
         return OLD;
     }
     if same(rows, new) { NEW } else { MIXED }
-}
-
-// After recovery: a store at rest that isn't poisoned has no guard, no doom and exact postings.
-pub fn sight_of(b: Bench, s: Store) -> u8 {
-    let m = recover(s);
-    let why = m.refusal;
-    if number_of(why) != 0 {
-        return REFUSED;
-    }
-    let t = m.store;
-    if t.poisoned {
-        return UNREST;
-    }
-    if !resting(t) {
-        return UNREST;
-    }
-    let rows = rows_of(t);
-    let old = b.old;
-    let new = b.new;
-    compared(rows, old, new)
 }

@@ -11,7 +11,7 @@ use lib.ListN.{length, getD, set, take, length-set, length-append}
 use lib.Seq.{getD-set-same, getD-set-other, take-append-le, take-all}
 use borrow.Author.Tests.{lt-ltb, le-leb}
 use Rattle.records.specs.Limits.{keyEnd}
-use Rattle.rules.specs.Puts.{Put, kLock}
+use Rattle.rules.specs.Puts.{Put, lastKind}
 use Rattle.journal.specs.Journal.{putLimit, wordLimit, placeBase, narrow, putOf, putAt, puts, takes, pushed, counted, Pushed, Kept, Holds}
 
 -- a put that the journal does not take changes nothing, and one that it takes stands in its two words
@@ -24,10 +24,10 @@ unfolding pushed counted
 push-taken j after n p t l e = record { words = rw t e; count = rw t; long = λ _. l }
 
 -- a put is kept if its field has 64 bits, or its value has 32
-pub kept-wide : (p : Put) → p .kind ≤ kLock → p .at < placeBase → narrow (p .kind) ≡ false → Kept p
+pub kept-wide : (p : Put) → p .kind ≤ lastKind → p .at < placeBase → narrow (p .kind) ≡ false → Kept p
 kept-wide p k a w = record { kind = k; at = a; val = rw w }
 
-pub kept-small : (p : Put) → p .kind ≤ kLock → p .at < placeBase → p .val < keyEnd → Kept p
+pub kept-small : (p : Put) → p .kind ≤ lastKind → p .at < placeBase → p .val < keyEnd → Kept p
 kept-small p k a h = record { kind = k; at = a; val = rw (mod-eq-of-lt h) (same (narrow (p .kind))) }
   where
     same : (b : Bool) → cond b (p .val) (p .val) ≡ p .val
@@ -69,7 +69,7 @@ holds-count {j} {n} h = sym (puts-long j n) ∙ ap length (h .are)
 pub holds-push : {j after : List ℕ} {n r : ℕ} {p : Put} {ps : List Put} → Holds j n ps → n < putLimit → Kept p → Pushed j n p after r → Holds after r (ps ++ p ∷ [])
 unfolding puts pushed counted
 holds-push {j} {after} {n} {r} {p} {ps} h l k e =
-    let yes : takes n p ≡ true = rw (lt-ltb n putLimit l, le-leb (p .kind) kLock (k .kind), lt-ltb (p .at) placeBase (k .at)) in
+    let yes : takes n p ≡ true = rw (lt-ltb n putLimit l, le-leb (p .kind) lastKind (k .kind), lt-ltb (p .at) placeBase (k .at)) in
     let w = p .kind * placeBase + p .at in
     let j′ = set j (n + n) w in
     let c : r ≡ suc n = rw yes at (e .count) ∙ add-one n in

@@ -6,17 +6,12 @@ use Prim.Native.Nat.{ℕ, zero, suc, _+_, _*_, _/_, _%_, _≤_, _<_}
 use lib.ListN.{length, getD, set}
 use lib.Dec.{eqb, ltb, leb}
 use Rattle.records.specs.Limits.{keyEnd}
-use Rattle.rules.specs.Puts.{Put, put, kHead, kNext, kKey, kLock}
+pub use Rattle.records.specs.Limits.{putLimit, placeBase}
+use Rattle.rules.specs.Puts.{Put, put, kHead, kNext, kKey, lastKind}
 
--- the limits of the code's `Journal`
-abbrev pub putLimit : ℕ
-putLimit = 512
-
+-- the limits of the code's `Journal`: putLimit and placeBase follow from the store's
 abbrev pub wordLimit : ℕ
 wordLimit = putLimit + putLimit
-
-abbrev pub placeBase : ℕ
-placeBase = 1024
 
 -- heads, next pointers and keys have 32 bits: of a larger value they take the low ones
 abbrev pub narrow : ℕ → Bool
@@ -39,7 +34,7 @@ puts j (suc i) = puts j i ++ putAt j i ∷ []
 
 -- the journal takes a put: it has room, and the kind and the place are within their ranges
 abbrev pub takes : ℕ → Put → Bool
-takes n p = ltb n putLimit && (leb (p .kind) kLock && ltb (p .at) placeBase)
+takes n p = ltb n putLimit && (leb (p .kind) lastKind && ltb (p .at) placeBase)
 
 unfoldable pub pushed : List ℕ → ℕ → Put → List ℕ
 pushed j n p = cond (takes n p) (set (set j (n + n) (p .kind * placeBase + p .at)) (n + n + 1) (p .val)) j
@@ -55,7 +50,7 @@ pub record Pushed (j : List ℕ) (n : ℕ) (p : Put) (after : List ℕ) (r : ℕ
 
 -- the journal keeps a put as it is: its ranges hold, and a 32-bit field's value has 32 bits
 pub record Kept (p : Put) : Type 0 where
-  pub kind : p .kind ≤ kLock
+  pub kind : p .kind ≤ lastKind
   pub at : p .at < placeBase
   pub val : low (p .kind) (p .val) ≡ p .val
 

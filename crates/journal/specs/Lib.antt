@@ -4,4 +4,5 @@ pub mod Journal
 pub mod Holds
 pub mod Adds
 pub mod Pushing
+pub mod AtMarks
 pub mod Applied

@@ -6,22 +6,34 @@ ghost use lib.ListN.{length, set};
 ghost use Rattle.rules.specs.Puts.{put, applyAll};
 ghost use Rattle.journal.specs.Journal.{Pushed, puts, putLimit};
 
+pub mod at_marks;
 mod puts;
 
+use records::RowId;
+use records::SlotPtr;
 use records::Store;
+use records::Tx;
 use fields::lent::clipped;
 
 pub struct Journal;
 
 impl Journal {
-    // A commit makes at most 64 guard puts, 32 posting puts, 32 puts of publication, 256 frees, 16 stamps, one poison and one drop: 402.
-    pub const PUTS: usize = 512;
+    // The longest run takes and releases every guard, stamps every stripe, inserts, removes and publishes (two puts) every write, frees
+    // every place, and has a drop and a poison.
+    pub const PUTS: usize = 3 * Store::STRIPES
+        + 2 * RowId::PARTITIONS
+        + 4 * Tx::WRITES
+        + SlotPtr::PLACES
+        + 2;
 
     // the first word of a put is its kind and place, the second its value
     pub const WORDS: usize = 2 * Journal::PUTS;
 
     // the first word is kind * PLACE_BASE + place; every place of a store's array is below
-    pub const PLACE_BASE: u64 = 1024;
+    pub const PLACE_BASE: u64 = (RowId::ROWS
+        + SlotPtr::PLACES
+        + Store::STRIPES
+        + RowId::PARTITIONS) as u64;
 
     // heads, next pointers and keys take the low 32 bits of a value
     pub const LOW_BASE: u64 = 4294967296;
@@ -64,6 +76,9 @@ impl Kind {
     pub const KEY: u64 = 16;
 
     pub const LOCK: u64 = 17;
+
+    // no kind is higher
+    pub const LAST: u64 = Kind::LOCK;
 }
 
 // The two words of a put, from place i on.
@@ -82,7 +97,7 @@ pub fn push(j: &mut [u64; Journal::WORDS], n: usize, kind: u64, at: usize, val: 
     if Journal::PUTS <= n {
         return n;
     }
-    if Kind::LOCK < kind {
+    if Kind::LAST < kind {
         return n;
     }
     let place = at as u64;

@@ -42,7 +42,7 @@ module _ (S : Store) (x : Tx) (logged : Bool) (plan : Schedule) where
 
   -- "B, or a test said yes"
   abbrev pub busyOrYes : List Bool
-  busyOrYes = s 7 B ∷ s 8 B ∷ indexReadConflict (S .stamps) x ∷ rowLockConflict S x ∷ serializationConflict (S .xmin) (S .xmax) x ∷ writeBaseConflict (S .heads) x ∷ []
+  busyOrYes = s 7 B ∷ s 8 B ∷ indexReadConflict S x ∷ rowLockConflict S x ∷ serializationConflict S x ∷ writeBaseConflict S x ∷ []
 
   -- "16 failed; panicked"
   abbrev pub callFailed : Bool

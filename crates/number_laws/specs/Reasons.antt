@@ -13,7 +13,7 @@ use Rattle.number_laws.specs.TableLaws.{Each, end, _▸_, Says, said}
 use Rattle.statements.specs.NumbersSeen.{failed, struckBy, stepRows, doneRow, commitRows}
 use Rattle.number_laws.specs.Column.{oneOf, one-is, stepsFailed, unprepared, busyOrYes, callFailed, callPanicked, uncleaned, column}
 use Rattle.statements.specs.Sized.{Sized}
-use Rattle.number_laws.specs.Seen.{commit-told}
+use Rattle.number_laws.specs.Seen.{rows-same, commit-told}
 
 module _ (S : Store) (x : Tx) (logged : Bool) (plan : Schedule) where
   abbrev f : ℕ → Bool
@@ -84,10 +84,9 @@ module _ (S : Store) (x : Tx) (logged : Bool) (plan : Schedule) where
 
   -- every commit that isn't answered 0: its number is answered for a reason that the paper gives for that number
   pub commit-because : Sized S → (cut : Cut) → let why = commit S x logged plan cut .refusal in isDone why ≡ false → getD (column S x logged plan cut) (numberOf why) false ≡ true
-  unfolding commitRows stepRows
   commit-because z cut h =
       let e = commit-told S x logged plan z cut .by-first .refusal in
       ⊎-elim
       (λ d. clash (ap isDone (e ∙ d)) h)
       (λ p. rw e p)
-      (said (N cut) (commitRows S x logged plan cut) (doneRow S x logged plan) refl (first-reasons cut))
+      (said (N cut) (commitRows S x logged plan cut) (doneRow S x logged plan) (rows-same S x logged plan z cut) (first-reasons cut))

@@ -8,7 +8,7 @@ use lib.ListN.{length}
 use lib.Dec.{ltb}
 use Rattle.rules.specs.Types.{Store, Tx, Schedule, Answer, Cut, Uncut, After, Refusal, StepFailed, PrepareFailed, PreparePanicked, Conflict, BoundDurably, FoundPoisoned, CleanupFailed}
 use Rattle.basic_laws.specs.Cases.{by, and-true, or-false}
-use Rattle.rules.specs.Lists.{memb}
+use Rattle.rules.specs.Lists.{all, memb}
 use Rattle.rules.specs.Store.{activeTxids}
 use Rattle.rules.specs.Admitted.{resting}
 use Rattle.rules.specs.Fit.{fit}
@@ -21,7 +21,7 @@ use Rattle.statements.specs.Table.{Answers, Row, firstRow, Reason}
 use Rattle.statements.specs.Words.{Admitted}
 use Rattle.run_laws.specs.FirstRows.{row-1, row-2, row-3, admitted}
 use Rattle.run_laws.specs.Gates.{gates, lateGates, clean, run-gates}
-use Rattle.number_laws.specs.TableLaws.{told-by}
+use Rattle.number_laws.specs.TableLaws.{same, told-by}
 use Rattle.statements.specs.NumbersSeen.{some, rows15, stepRows, doneRow, cutRow, commitRows}
 use Rattle.statements.specs.Sized.{Sized}
 use Rattle.posting_laws.specs.Rolled.{ready}
@@ -112,9 +112,13 @@ module _ (S : Store) (x : Tx) (logged : Bool) (plan : Schedule) (z : Sized S) wh
       (λ f. applies (rw f) (rw (row-2 S x logged plan cut r f) (record { refusal = refl; «record» = refl; store = refl; tx = refl })))))
       (λ r. applies (rw r) (rw (row-1 S x logged plan cut r) (record { refusal = refl; «record» = refl; store = refl; tx = refl })))
 
+  -- each row's refusal has the row's number; by itself, so that what compares rows needn't open them
+  pub rows-same : (cut : Cut) → all same (commitRows S x logged plan cut) ≡ true
+  unfolding commitRows stepRows
+  rows-same cut = refl
+
   -- a number is answered exactly where one of its rows applies and none before it does; 0 where none applies
   pub commit-when : (cut : Cut) (n : ℕ) → (numberOf (commit S x logged plan cut .refusal) ≡ n) ↔ Reason n [] (commitRows S x logged plan cut) (doneRow S x logged plan)
-  unfolding commitRows stepRows
   commit-when cut n =
       rw (commit-told cut .by-first .refusal)
-      (told-by n [] (commitRows S x logged plan cut) (doneRow S x logged plan) refl refl tt)
+      (told-by n [] (commitRows S x logged plan cut) (doneRow S x logged plan) (rows-same cut) refl tt)

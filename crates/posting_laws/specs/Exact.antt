@@ -8,10 +8,11 @@ use lib.ListN.{length, getD}
 use lib.Dec.{eqb}
 use borrow.Author.Tests.{eqb-true, lt-ltb}
 use Rattle.records.specs.Limits.{rows, postingLimit}
+use Rattle.records.specs.Relations.{rows-posted}
 use Rattle.rules.specs.Types.{Store, Tx, Value, Key, Write}
 use Rattle.basic_laws.specs.Cases.{by, clash, and-true}
 use Rattle.rules.specs.Lists.{all, flat, memb, rising}
-use Rattle.rules.specs.Store.{posting, valueAt, sameValue, postingsOf}
+use Rattle.rules.specs.Store.{posting, valueAt, sameValue, carries, postingsOf}
 use Rattle.rules.specs.Transaction.{finals}
 use Rattle.rules.specs.Admitted.{headPostings}
 use Rattle.rules.specs.Puts.{Put, kInsert, kRemove, kXmax, kHead, putInsert, putRemove, applyAll}
@@ -45,15 +46,15 @@ renewed v w k = by (sameValue v w)
     (λ f. rw (e, f) (or-none (sameValue w k))))
 
 module _ (key : List ℕ) (has : List Bool) (heads : List ℕ) (k r : ℕ) where
-  -- the row's head has the key
+  -- the row's head carries the key
   abbrev old : Bool
-  old = sameValue (valueAt key has (getD heads r 0)) (Key k)
+  old = carries key has (getD heads r 0) k
 
-  -- row by row: not taken out, and put in or there before, is: the new head has the key
+  -- row by row: not taken out, and put in or there before, is: the new head carries the key
   by-write : (ws : List Write) → all (λ w. eqb (getD heads (w .row .0) 0) (w .base .0)) ws ≡ true
-      → (not (pick (λ w. changed key has w && sameValue (valueAt key has (w .base .0)) (Key k)) false r ws)
-      && (pick (λ w. changed key has w && sameValue (valueAt key has (w .new .0)) (Key k)) false r ws || old))
-      ≡ pick (λ w. sameValue (valueAt key has (w .new .0)) (Key k)) old r ws
+      → (not (pick (λ w. changed key has w && carries key has (w .base .0) k) false r ws)
+      && (pick (λ w. changed key has w && carries key has (w .new .0) k) false r ws || old))
+      ≡ pick (λ w. carries key has (w .new .0) k) old r ws
   by-write [] a = refl
   by-write (w ∷ ws) a =
       let b = and-true (eqb (getD heads (w .row .0) 0) (w .base .0)) (all (λ w. eqb (getD heads (w .row .0) 0) (w .base .0)) ws) a in
@@ -86,9 +87,9 @@ module _ (S : Store) (x : Tx) (ok : Ready S x) where
       let long = new-heads-long ws heads ∙ ok .sized .heads in
       let was : memb p (postingsOf S) ≡ old key has heads k r
       = rw (exact S (ok .rests) (ok .healthy), head-member key has heads (omega (arith, ok .sized .heads)) k r lt, lt-ltb r (length heads) (omega (arith, ok .sized .heads))) in
-      let now : memb p (headPostings key has 0 hs) ≡ pick (λ w. sameValue (valueAt key has (w .new .0)) (Key k)) (old key has heads k r) r ws
+      let now : memb p (headPostings key has 0 hs) ≡ pick (λ w. carries key has (w .new .0) k) (old key has heads k r) r ws
       = rw (head-member key has hs (omega (arith, long)) k r lt, lt-ltb r (length hs) (omega (arith, long)), new-heads-at rows ws heads r (ok .sized .heads) (rows-fit S x ok) (once S x ok))
-      (pick-map (λ h. sameValue (valueAt key has h) (Key k)) (λ w. w .new .0) (getD heads r 0) r ws) in
+      (pick-map (λ h. carries key has h k) (λ w. w .new .0) (getD heads r 0) r ws) in
       mem-withoutAll ss (intoAll ds (postingsOf S)) p
       ∙ rw (mem-intoAll ds (postingsOf S) p, was, mem-side key has (λ c. c .before) k r ws lt (rows-fit S x ok) (once S x ok), mem-side key has (λ c. c .after) k r ws lt (rows-fit S x ok) (once S x ok))
       (by-write key has heads k r ws (bases S x ok))
@@ -124,7 +125,7 @@ module _ (S : Store) (x : Tx) (ok : Ready S x) where
       let ks = kXmax ∷ kHead ∷ [] in
       let o = publish-only (x .txid .0) (finals x) in
       let short : length newPostings ≤ postingLimit
-      = rw new-postings (omega (arith, heads-length (S .key) (S .has) 0 (newHeads (finals x) (S .heads)), new-heads-long (finals x) (S .heads), ok .sized .heads)) in
+      = rw new-postings (omega (arith, heads-length (S .key) (S .has) 0 (newHeads (finals x) (S .heads)), new-heads-long (finals x) (S .heads), ok .sized .heads, rows-posted)) in
       rw (postings-kept ks refl refl ps T o, key-kept ks refl refl ps T o, has-kept ks refl refl ps T o, publish-heads (x .txid .0) (finals x) T)
       (posted-of newPostings S short ∙ new-postings)
 

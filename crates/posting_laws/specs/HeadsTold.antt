@@ -1,5 +1,6 @@
 -- The postings of the heads: rising, and one for each row whose head has a value.
 use mathlib.Core.Path.{_≡_, refl, sym, _∙_}
+use mathlib.Core.Logic.{_↔_}
 use mathlib.Core.Bool.{Bool, true, false, _&&_}
 use mathlib.Core.List.{List, [], _∷_}
 use Prim.Native.Nat.{ℕ, zero, suc, _+_, _≤_, _<_}
@@ -12,7 +13,7 @@ use Rattle.records.specs.Limits.{rows}
 use Rattle.rules.specs.Types.{Value, Absent, Key}
 use Rattle.basic_laws.specs.Cases.{by, clash, and-true}
 use Rattle.rules.specs.Lists.{memb, rising}
-use Rattle.rules.specs.Store.{posting, keyOf, rowOf, valueAt, sameValue}
+use Rattle.rules.specs.Store.{posting, keyOf, rowOf, valueAt, sameValue, carries}
 use Rattle.rules.specs.Admitted.{headPostings}
 use Rattle.basic_laws.specs.Rearranged.{or-none}
 use Rattle.basic_laws.specs.Rising.{mem-into, rising-ext}
@@ -28,6 +29,10 @@ same-value (Key j) (Key k) h = rw (eqb-true j k h)
 pub value-same : (v : Value) → sameValue v v ≡ true
 value-same Absent = refl
 value-same (Key k) = eq-eqb k k refl
+
+-- a version carries a key where its value is that key
+pub carries-key : (key : List ℕ) (has : List Bool) (p k : ℕ) → (carries key has p k ≡ true) ↔ (valueAt key has p ≡ Key k)
+carries-key key has p k = (same-value (valueAt key has p) (Key k), λ e. rw e (value-same (Key k)))
 
 -- two rising lists of postings with the same postings at each row are one
 pub told-by-rows : (a b : List ℕ) → rising 0 a ≡ true → rising 0 b ≡ true
@@ -45,7 +50,7 @@ module _ (key : List ℕ) (has : List Bool) where
 
   -- the row's own head decides
   from-row : (k r i : ℕ) (hs : List ℕ) → r + length hs ≤ rows → r + i < rows
-      → memb (posting k (r + i)) (headPostings key has r hs) ≡ (ltb i (length hs) && sameValue (valueAt key has (getD hs i 0)) (Key k))
+      → memb (posting k (r + i)) (headPostings key has r hs) ≡ (ltb i (length hs) && carries key has (getD hs i 0) k)
   from-row k r i [] le lt = rw (le-ltb i 0 (omega arith))
   from-row k r zero (h ∷ hs) le lt =
       let l = headPostings key has (suc r) hs in
@@ -67,15 +72,15 @@ module _ (key : List ℕ) (has : List Bool) where
   module _ (heads : List ℕ) (fit : length heads ≤ rows) where
     -- "exactly (key, row) of each head with a value"
     pub head-member : (k r : ℕ) → r < rows
-        → memb (posting k r) (headPostings key has 0 heads) ≡ (ltb r (length heads) && sameValue (valueAt key has (getD heads r 0)) (Key k))
+        → memb (posting k r) (headPostings key has 0 heads) ≡ (ltb r (length heads) && carries key has (getD heads r 0) k)
     head-member k r lt = rw zero-add at (from-row k 0 r heads (omega arith) (omega arith))
 
     -- .. from the posting to the head, and back
     pub head-has : (k r : ℕ) → r < rows → memb (posting k r) (headPostings key has 0 heads) ≡ true
         → (r < length heads) × (valueAt key has (getD heads r 0) ≡ Key k)
     head-has k r lt m =
-        let a = and-true (ltb r (length heads)) (sameValue (valueAt key has (getD heads r 0)) (Key k)) (sym (head-member k r lt) ∙ m) in
-        (ltb-true r (length heads) (a .0), same-value (valueAt key has (getD heads r 0)) (Key k) (a .1))
+        let a = and-true (ltb r (length heads)) (carries key has (getD heads r 0) k) (sym (head-member k r lt) ∙ m) in
+        (ltb-true r (length heads) (a .0), carries-key key has (getD heads r 0) k .0 (a .1))
 
     -- one posting a row at most
     pub head-once : (j k r : ℕ) → r < rows → memb (posting j r) (headPostings key has 0 heads) ≡ true → memb (posting k r) (headPostings key has 0 heads) ≡ true → j ≡ k

@@ -9,8 +9,10 @@ use Rattle.basic_laws.specs.Cases.{mem-here, mem-there}
 use Rattle.rules.specs.Lists.{memb}
 use Rattle.rules.specs.Admitted.{headPostings}
 use Rattle.rules.specs.Puts.{Put, kInsert, kRemove, kHead, kFree, kKey, putFree, applyAll}
-use Rattle.run_laws.specs.OnlyKinds.{only, only-map, heads-kept, key-kept, has-kept}
-use Rattle.run_laws.specs.FreedSlots.{freed-at}
+use Rattle.run_laws.specs.OnlyKinds.{only, heads-kept, key-kept, has-kept}
+use Rattle.run_laws.specs.GuardPuts.{setAll, set-all-else}
+use Rattle.rules.specs.Store.{postingsOf}
+use Rattle.run_laws.specs.FreedSlots.{freed-is}
 use Rattle.posting_laws.specs.RestingPostings.{Exact}
 use Rattle.posting_laws.specs.Exact.{postings-kept}
 
@@ -31,10 +33,7 @@ heads-same key key′ has has′ r (h ∷ hs) e =
 
 -- slots freed that are no heads
 pub exact-freed : (qs : List ℕ) (T : Store) → ((h : ℕ) → memb h (T .heads) ≡ true → memb h qs ≡ false) → Exact T → Exact (applyAll (map putFree qs) T)
+unfolding postingsOf
 exact-freed qs T n e =
-    let ks = kFree ∷ [] in
-    let D = applyAll (map putFree qs) T in
-    let o = only-map ks putFree qs (λ q. refl) in
-    rw (postings-kept ks refl refl (map putFree qs) T o, heads-kept ks refl (map putFree qs) T o)
-    (e ∙ sym (heads-same (T .key) (D .key) (T .has) (D .has) 0 (T .heads)
-    (λ h m. (freed-at (λ S. S .has) false (λ p S. refl) qs T h (n h m), freed-at (λ S. S .key) 0 (λ p S. refl) qs T h (n h m)))))
+    rw (freed-is qs T) (e ∙ sym (heads-same (T .key) (setAll (T .key) qs 0) (T .has) (setAll (T .has) qs false) 0 (T .heads)
+    (λ h m. (set-all-else false qs (T .has) false h (n h m), set-all-else 0 qs (T .key) 0 h (n h m)))))

@@ -8,10 +8,10 @@ use lib.ListN.{length, getD}
 use lib.Dec.{eqb}
 use borrow.Author.Tests.{eqb-true, eq-eqb, lt-ltb}
 use Rattle.records.specs.Limits.{rows}
-use Rattle.rules.specs.Types.{Store, Tx, Key}
+use Rattle.rules.specs.Types.{Store, Tx}
 use Rattle.basic_laws.specs.Cases.{by, iff, and-true, and-both}
 use Rattle.rules.specs.Lists.{memb, those}
-use Rattle.rules.specs.Store.{posting, keyOf, rowOf, valueAt, sameValue, postingsOf}
+use Rattle.rules.specs.Store.{posting, keyOf, rowOf, carries, postingsOf}
 use Rattle.rules.specs.Transaction.{writesOf}
 use Rattle.rules.specs.Calls.{candidates}
 use Rattle.basic_laws.specs.Rising.{mem-inOrder}
@@ -37,10 +37,15 @@ rows-of-key k r (c ∷ l) lt =
     (by (eqb (keyOf c) k) (λ e. rw (e, rows-of-key k r l lt)) (λ e. rw (e, rows-of-key k r l lt)))
 
 -- "rows from postings of the key and own writes"
-pub candidate-rows : (S : Store) (x : Tx) (k r : ℕ) → length (S .heads) ≡ rows → Exact S → r < rows
-    → memb r (candidates S x k) ≡ (sameValue (valueAt (S .key) (S .has) (getD (S .heads) r 0)) (Key k) || memb r (rowsOf (writesOf x)))
+pub candidate-tells : (S : Store) (x : Tx) (k r : ℕ) → r < rows → memb r (candidates S x k) ≡ (memb (posting k r) (postingsOf S) || memb r (rowsOf (writesOf x)))
 unfolding candidates
-candidate-rows S x k r heads exact lt =
+candidate-tells S x k r lt =
     let found = map rowOf (those (λ c. eqb (keyOf c) k) (postingsOf S)) in
-    mem-inOrder (found ++ rowsOf (writesOf x)) r
-    ∙ rw (mem-append found (rowsOf (writesOf x)) r, rows-of-key k r (postingsOf S) lt, exact, head-member (S .key) (S .has) (S .heads) (omega (arith, heads)) k r lt, lt-ltb r (length (S .heads)) (omega (arith, heads)))
+    mem-inOrder (found ++ rowsOf (writesOf x)) r ∙ mem-append found (rowsOf (writesOf x)) r ∙ rw (rows-of-key k r (postingsOf S) lt)
+
+-- .. on a store whose postings are exactly the heads'
+pub candidate-rows : (S : Store) (x : Tx) (k r : ℕ) → length (S .heads) ≡ rows → Exact S → r < rows
+    → memb r (candidates S x k) ≡ (carries (S .key) (S .has) (getD (S .heads) r 0) k || memb r (rowsOf (writesOf x)))
+candidate-rows S x k r heads exact lt =
+    candidate-tells S x k r lt
+    ∙ rw (exact, head-member (S .key) (S .has) (S .heads) (omega (arith, heads)) k r lt, lt-ltb r (length (S .heads)) (omega (arith, heads)))

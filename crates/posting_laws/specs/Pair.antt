@@ -6,6 +6,7 @@ use native.Mathlib.Omega.{arith}
 use lib.Dec.{eqb}
 use borrow.Author.Tests.{eqb-true, eq-eqb}
 use Rattle.records.specs.Limits.{rows, keyEnd}
+use Rattle.records.specs.Relations.{rows-some}
 use Rattle.basic_laws.specs.Cases.{iff, and-true, and-both}
 use Rattle.rules.specs.Store.{posting, keyOf, rowOf}
 
@@ -21,7 +22,7 @@ posting-of c = omega arith
 
 -- every number has a row
 pub row-small : (c : ℕ) → rowOf c < rows
-row-small c = omega arith
+row-small c = omega (arith, rows-some)
 
 -- one number, one posting
 pub posting-once : (j k q r : ℕ) → q < rows → r < rows → posting j q ≡ posting k r → (j ≡ k) × (q ≡ r)

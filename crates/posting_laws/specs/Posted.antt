@@ -9,6 +9,7 @@ use lib.Seq.{length-take-le}
 use lib.Dec.{eqb}
 use borrow.Author.Tests.{eqb-true, leb-true}
 use Rattle.records.specs.Limits.{postingLimit}
+use Rattle.records.specs.Setters.{withPostings}
 use Rattle.rules.specs.Types.{Store}
 use Rattle.basic_laws.specs.Cases.{by, every-cons}
 use Rattle.rules.specs.Lists.{memb, rising, into, without, isZero, pad}
@@ -21,7 +22,7 @@ use Rattle.basic_laws.specs.LaidOut.{take-pad, pad-take}
 
 -- the store with other postings
 abbrev pub posted : List ℕ → Store → Store
-posted l S = record { heads = S .heads; xmin = S .xmin; xmax = S .xmax; next = S .next; key = S .key; has = S .has; locked = S .locked; owner = S .owner; postings = pad postingLimit 0 l; «posting_count» = length l; «stripe_guards» = S .«stripe_guards»; «partition_guards» = S .«partition_guards»; stamps = S .stamps; active = S .active; clock = S .clock; poisoned = S .poisoned; doomed = S .doomed; bound = S .bound }
+posted l S = withPostings (pad postingLimit 0 l) (length l) S
 
 -- .. has those postings
 pub posted-of : (l : List ℕ) (S : Store) → length l ≤ postingLimit → postingsOf (posted l S) ≡ l

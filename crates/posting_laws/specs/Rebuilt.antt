@@ -8,6 +8,7 @@ use lib.ListN.{length, getD, length-map}
 use lib.Dec.{eqb, ltb}
 use borrow.Author.Tests.{eqb-true, eqb-false, ltb-true, lt-ltb, not-true}
 use Rattle.records.specs.Limits.{rows, postingLimit, keyEnd}
+use Rattle.records.specs.Relations.{rows-posted}
 use Rattle.rules.specs.Types.{Store}
 use Rattle.basic_laws.specs.Cases.{by, clash}
 use Rattle.rules.specs.Lists.{all, memb, isZero, nonzero, keep}
@@ -73,7 +74,7 @@ module _ (S : Store) (slots : slotsInForm S ≡ true) (ends : walk (trimmed S) (
   few = length-map (S .heads) (trimHead (finished (S .active) (S .doomed)) (S .xmin) (S .next)) ∙ sized .heads
 
   short : length found ≤ postingLimit
-  short = omega (arith, heads-length (S .key) (S .has) 0 (trimmed S), few)
+  short = omega (arith, heads-length (S .key) (S .has) 0 (trimmed S), few, rows-posted)
 
   -- freeing off-chain slots leaves the heads' values
   values-kept : (h : ℕ) → memb h (trimmed S) ≡ true

@@ -8,10 +8,10 @@ use lib.Seq.{take-length}
 use lib.Dec.{eqb}
 use Rattle.records.specs.Zero.{onlyTxid}
 use Rattle.rules.specs.Types.{Store, Tx, Schedule, Cut, Open, CallbackFailed, CallbackPanicked}
-use Rattle.basic_laws.specs.Cases.{by, clash, or-false}
+use Rattle.basic_laws.specs.Cases.{by, clash}
 use Rattle.rules.specs.Numbers.{numberOf, fateIn, fate}
 use Rattle.rules.specs.Puts.{Put, putInsert, putRemove, putPoison, applyAll, abortPuts}
-use Rattle.rules.specs.Tests.{indexReadConflict, rowLockConflict, serializationConflict, writeBaseConflict}
+use Rattle.run_laws.specs.FourTests.{bases-agree}
 use Rattle.rules.specs.Changes.{changes, destinations, release, insertions}
 use Rattle.rules.specs.Commit.{End, fails, count, rollback, abortOrPoison}
 use Rattle.rules.specs.Answer.{uncut, commit}
@@ -40,11 +40,7 @@ called-fate false false = refl
 module _ (S : Store) (x : Tx) (logged : Bool) (plan : Schedule) (sized : Sized S) where
   -- what is known once the tests are passed
   pub ready : Admitted S x plan → Passed S x logged plan → Ready S x
-  ready ok p =
-      let a = or-false (indexReadConflict (S .stamps) x) _ (p .agreed) .1 in
-      let b = or-false (rowLockConflict S x) _ a .1 in
-      let c = or-false (serializationConflict (S .xmin) (S .xmax) x) (writeBaseConflict (S .heads) x) b .1 in
-      record { rests = ok .rests; healthy = p .healthy; fits = ok .fits; agreed = c; sized = sized }
+  ready ok p = record { rests = ok .rests; healthy = p .healthy; fits = ok .fits; agreed = bases-agree S x (p .agreed); sized = sized }
 
   -- a run that put in n postings and took them out again, guards around it
   pub back-and-forth : Ready S x → (n : ℕ) → let ds = take n (destinations (changes S x)) in

@@ -1,6 +1,6 @@
 -- Recycling and abort spare every head.
 use mathlib.Core.Path.{_≡_, _∙_}
-use mathlib.Core.Bool.{true, false, not, _&&_}
+use mathlib.Core.Bool.{true, false}
 use mathlib.Core.List.{List, [], _∷_}
 use Prim.Native.Nat.{ℕ, zero, suc}
 use lib.ListN.{length, getD, set}
@@ -10,18 +10,19 @@ use Rattle.records.specs.Limits.{places}
 use Rattle.rules.specs.Types.{Store, Tx, Write}
 use Rattle.basic_laws.specs.Cases.{by, and-false, or-true, or-false, or-left, or-right}
 use Rattle.rules.specs.Lists.{memb}
-use Rattle.rules.specs.Store.{used, usedSlots}
+use Rattle.rules.specs.Store.{used}
 use Rattle.rules.specs.Transaction.{finals}
 use Rattle.rules.specs.Chains.{walk, on}
 use Rattle.rules.specs.Admitted.{resting}
 use Rattle.rules.specs.Puts.{ownSlots}
 use Rattle.rules.specs.Changes.{recycled}
-use Rattle.basic_laws.specs.Members.{mem-those, mem-nonzero, mem-at}
+use Rattle.basic_laws.specs.Members.{mem-at}
 use Rattle.basic_laws.specs.Chain.{chain-head}
 use Rattle.basic_laws.specs.Chained.{walk-sound}
 use Rattle.statements.specs.Sized.{Sized}
 use Rattle.basic_laws.specs.TestParts.{slots-parts}
 use Rattle.run_laws.specs.PublishedChains.{newHeads, newPointers}
+use Rattle.run_laws.specs.OwnSlots.{own-is, recycled-is}
 use Rattle.posting_laws.specs.RestingPostings.{mendable}
 
 -- a head is on a chain, by the marks of a walk that ends
@@ -46,22 +47,18 @@ new-heads-member (w ∷ ws) hs h d m =
 
 -- "off-chain": no head of a resting store is among a txid's own slots
 pub head-not-own : (S : Store) (t : ℕ) → Sized S → resting S ≡ true → (h : ℕ) → memb h (S .heads) ≡ true → memb h (ownSlots (S .heads) (S .next) (S .xmin) t) ≡ false
-unfolding ownSlots
 head-not-own S t sized rests h m =
-    let seen = walk (S .heads) (S .next) .seen in
     let r = mendable S rests in
-    mem-those (λ p. eqb (getD (S .xmin) p 0) t && not (on seen p)) (usedSlots (S .xmin)) h
+    own-is (S .heads) (S .next) (S .xmin) t h
     ∙ by (eqb h 0)
-    (λ e. rw (eqb-true h 0 e, mem-nonzero (S .xmin) 0, not-true (used (S .xmin) 0) (slots-parts S (r .slots) .first)))
-    (λ e. rw (head-seen (S .heads) (S .next) h (sized .next) (r .walked) (eqb-false h 0 e) m, and-false (eqb (getD (S .xmin) h 0) t)) (and-false (memb h (usedSlots (S .xmin)))))
+    (λ e. rw (eqb-true h 0 e, not-true (used (S .xmin) 0) (slots-parts S (r .slots) .first)))
+    (λ e. rw (head-seen (S .heads) (S .next) h (sized .next) (r .walked) (eqb-false h 0 e) m, and-false (eqb (getD (S .xmin) h 0) t))
+    (and-false (used (S .xmin) h)))
 
 -- what is recycled is no head after publication
 pub spared : (S : Store) (x : Tx) → Sized S → resting S ≡ true → (h : ℕ) → memb h (newHeads (finals x) (S .heads)) ≡ true → memb h (recycled S x) ≡ false
-unfolding recycled
 spared S x sized rests h m =
-    let own = ownSlots (S .heads) (S .next) (S .xmin) (x .txid .0) in
-    let news = newPointers (finals x) in
-    mem-those (λ p. not (memb p news)) own h
-    ∙ by (memb h news)
-    (λ e. rw e (and-false (memb h own)))
+    recycled-is S x h
+    ∙ by (memb h (newPointers (finals x)))
+    (λ e. rw e (and-false (memb h (ownSlots (S .heads) (S .next) (S .xmin) (x .txid .0)))))
     (λ e. rw (e, head-not-own S (x .txid .0) sized rests h (new-heads-member (finals x) (S .heads) h e m)))

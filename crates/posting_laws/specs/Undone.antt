@@ -8,10 +8,11 @@ use lib.ListN.{length, getD, take, drop, length-take, length-append, take-append
 use lib.Dec.{eqb, ltb}
 use borrow.Author.Tests.{eqb-true, leb-true, not-true}
 use Rattle.records.specs.Limits.{rows, postingLimit, writeLimit}
+use Rattle.records.specs.Relations.{writes-posted}
 use Rattle.rules.specs.Types.{Store, Tx, Value, Key, Write}
 use Rattle.basic_laws.specs.Cases.{by, clash, and-true, and-false, or-true, or-false, or-left, or-right, every-cons}
 use Rattle.rules.specs.Lists.{all, memb}
-use Rattle.rules.specs.Store.{keyOf, rowOf, valueAt, sameValue, postingsOf}
+use Rattle.rules.specs.Store.{keyOf, rowOf, valueAt, sameValue, carries, postingsOf}
 use Rattle.rules.specs.Transaction.{writesOf, finals}
 use Rattle.rules.specs.Chains.{walk}
 use Rattle.rules.specs.Admitted.{resting}
@@ -35,7 +36,7 @@ pub record Ready (S : Store) (x : Tx) : Type 0 where
   pub rests : resting S ≡ true
   pub healthy : S .poisoned ≡ false
   pub fits : fit S x ≡ true
-  pub agreed : writeBaseConflict (S .heads) x ≡ false
+  pub agreed : writeBaseConflict S x ≡ false
   pub sized : Sized S
 
 -- a prefix of a mapped list
@@ -70,8 +71,8 @@ differs v w k h =
 
 -- where a row's write brings in a posting, the row's head has another value
 head-differs : (key : List ℕ) (has : List Bool) (heads : List ℕ) (k r : ℕ) (ws : List Write) → all (λ w. eqb (getD heads (w .row .0) 0) (w .base .0)) ws ≡ true
-    → pick (λ w. changed key has w && sameValue (valueAt key has (w .new .0)) (Key k)) false r ws ≡ true
-    → sameValue (valueAt key has (getD heads r 0)) (Key k) ≡ false
+    → pick (λ w. changed key has w && carries key has (w .new .0) k) false r ws ≡ true
+    → carries key has (getD heads r 0) k ≡ false
 head-differs key has heads k r [] a h = clash {b = false} h refl
 head-differs key has heads k r (w ∷ ws) a h =
     let b = and-true (eqb (getD heads (w .row .0) 0) (w .base .0)) (all (λ w. eqb (getD heads (w .row .0) 0) (w .base .0)) ws) a in
@@ -126,7 +127,7 @@ module _ (S : Store) (x : Tx) (ok : Ready S x) where
   -- room for all that is put in
   pub room : length (destinations (changes S x)) + length (postingsOf S) ≤ postingLimit
   unfolding destinations changes
-  room = rw (exact S (ok .rests) (ok .healthy)) (omega (arith, side-length (S .key) (S .has) (λ c. c .after) (finals x), few, heads-length (S .key) (S .has) 0 (S .heads), ok .sized .heads))
+  room = rw (exact S (ok .rests) (ok .healthy)) (omega (arith, side-length (S .key) (S .has) (λ c. c .after) (finals x), few, heads-length (S .key) (S .has) 0 (S .heads), ok .sized .heads, writes-posted))
 
   -- the first n insertions undone
   pub undone : (n : ℕ) → let ds = take n (destinations (changes S x)) in

@@ -9,10 +9,11 @@ use lib.Seq.{append-snoc}
 use Rattle.records.specs.Limits.{rows}
 use Rattle.rules.specs.Lists.{pad}
 use Rattle.rules.specs.Types.{Tx, RowId}
+use Rattle.rules.specs.Store.{carries}
 use Rattle.rules.specs.Calls.{asRow}
 use Rattle.fields.specs.Pad.{pad-snoc}
 use Rattle.visibility.specs.Found.{readPtrOf}
-use Rattle.recording.specs.LookupTurns.{hasKey, matchingOf}
+use Rattle.recording.specs.LookupTurns.{matchingOf}
 use Rattle.recording.specs.declared.lookup.RowList.{RowList}
 
 -- rows laid out in an array
@@ -72,7 +73,7 @@ module _ (heads next xmin key : List ℕ) (has : List Bool) (x : Tx) (k : ℕ) (
   unfolding matchingOf
   matches-none e = rw e
 
-  module _ (r p : ℕ) (rest : List ℕ) (next-row : rs ≡ r ∷ rest) (read : p ≡ readPtrOf heads next xmin x r) (b : Bool) (test : b ≡ hasKey key has k p) where
+  module _ (r p : ℕ) (rest : List ℕ) (next-row : rs ≡ r ∷ rest) (read : p ≡ readPtrOf heads next xmin x r) (b : Bool) (test : b ≡ carries key has p k) where
     pub matches-yes : b ≡ true → matchingOf heads next xmin key has x k rs ≡ r ∷ matchingOf heads next xmin key has x k rest
     unfolding matchingOf
     matches-yes e = rw (next-row, ← read, ← test, e)

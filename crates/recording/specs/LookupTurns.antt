@@ -1,13 +1,11 @@
 -- What a lookup records and finds, from the fields of the store that it reads, one candidate at a time.
 use mathlib.Core.Path.{_≡_, refl}
-use mathlib.Core.Bool.{Bool, true, false}
+use mathlib.Core.Bool.{Bool}
 use mathlib.Core.List.{List, [], _∷_}
 use Prim.Native.Nat.{ℕ}
-use lib.ListN.{getD}
-use lib.Dec.{eqb}
 use Rattle.rules.specs.Lists.{those}
-use Rattle.rules.specs.Types.{Store, Tx, ReadRecord, Key}
-use Rattle.rules.specs.Store.{valueAt, sameValue}
+use Rattle.rules.specs.Types.{Store, Tx, ReadRecord}
+use Rattle.rules.specs.Store.{carries}
 use Rattle.rules.specs.Calls.{recordReads, readPtr, matching, candidates}
 use Rattle.visibility.specs.Found.{readPtrOf}
 use Rattle.recording.specs.ReadList.{recordReadOf, record-read}
@@ -23,17 +21,13 @@ unfolding recordReadsOf
 record-reads S x [] l = refl
 record-reads S x (r ∷ rs) l = rw (record-read S x r l) (record-reads S x rs (recordReadOf (S .heads) (S .next) (S .xmin) x r l))
 
--- the value at p is key k
-unfoldable pub hasKey : List ℕ → List Bool → ℕ → ℕ → Bool
-hasKey key has k p = sameValue (valueAt key has p) (Key k)
-
 -- those of some rows whose read value is key k
 unfoldable pub matchingOf : List ℕ → List ℕ → List ℕ → List ℕ → List Bool → Tx → ℕ → List ℕ → List ℕ
-matchingOf heads next xmin key has x k rs = those (λ r. hasKey key has k (readPtrOf heads next xmin x r)) rs
+matchingOf heads next xmin key has x k rs = those (λ r. carries key has (readPtrOf heads next xmin x r) k) rs
 
 -- of the candidates they are the definition's on the whole store
 pub matching-of : (S : Store) (x : Tx) (k : ℕ) → matching S x k ≡ matchingOf (S .heads) (S .next) (S .xmin) (S .key) (S .has) x k (candidates S x k)
-unfolding matching matchingOf hasKey readPtr readPtrOf
+unfolding matching matchingOf readPtr readPtrOf
 matching-of S x k = refl
 
 -- one row more recorded, or none left
@@ -45,13 +39,3 @@ module _ (heads next xmin : List ℕ) (x : Tx) (rs : List ℕ) (l : List ReadRec
   pub records-next : (r : ℕ) (rest : List ℕ) → rs ≡ r ∷ rest → recordReadsOf heads next xmin x rs l ≡ recordReadsOf heads next xmin x rest (recordReadOf heads next xmin x r l)
   unfolding recordReadsOf
   records-next r rest e = rw e
-
--- a slot with a key, and one without
-module _ (key : List ℕ) (has : List Bool) (k p : ℕ) where
-  pub key-there : (j : ℕ) → getD has p false ≡ true → j ≡ getD key p 0 → eqb j k ≡ hasKey key has k p
-  unfolding hasKey
-  key-there j h e = rw (h, e)
-
-  pub key-absent : getD has p false ≡ false → false ≡ hasKey key has k p
-  unfolding hasKey
-  key-absent h = rw h

@@ -8,6 +8,7 @@ use lib.ListN.{length, getD, set, take, length-append, length-take}
 use lib.Dec.{eqb, ltb}
 use borrow.Author.Tests.{le-ltb, lt-ltb, ltb-false}
 use Rattle.records.specs.Limits.{readLimit}
+use Rattle.records.specs.Setters.{withReadArray}
 use Rattle.records.specs.Zero.{noRead}
 use Rattle.rules.specs.Lists.{any, pad}
 use Rattle.rules.specs.Types.{Store, Tx, ReadRecord}
@@ -84,7 +85,7 @@ laid-fits l m holds fits =
 
 -- a transaction with its reads as a list has them
 unfoldable pub readsFrom : ReadList → Tx → Tx
-readsFrom l x = record { txid = x .txid; «snapshot_xmin» = x .«snapshot_xmin»; «snapshot_xmax» = x .«snapshot_xmax»; snapshot = x .snapshot; «snapshot_count» = x .«snapshot_count»; writes = x .writes; «write_count» = x .«write_count»; reads = l .at; «read_count» = l .count; «index_reads» = x .«index_reads»; «index_read_count» = x .«index_read_count»; «index_conflict» = x .«index_conflict»; savepoints = x .savepoints; «savepoint_count» = x .«savepoint_count» }
+readsFrom l x = withReadArray (l .at) (l .count) x
 
 pub reads-from : (l : ReadList) (m : List ReadRecord) (x : Tx) → l ≡ laid m → l .over ≡ false → readsFrom l x ≡ withReads m x
 unfolding readsFrom

@@ -7,6 +7,7 @@ use native.Mathlib.Omega.{arith}
 use lib.ListN.{length, take, set, length-append, length-take}
 use lib.Dec.{eqb}
 use Rattle.records.specs.Limits.{indexReadLimit}
+use Rattle.records.specs.Setters.{withIndexReadArray}
 use Rattle.records.specs.Zero.{noIndexRead}
 use Rattle.rules.specs.Lists.{any, pad}
 use Rattle.rules.specs.Types.{Tx, IndexRead}
@@ -71,7 +72,7 @@ module _ (l : IndexReadList) (m : List IndexRead) (i t : ℕ) (b : Bool) (holds 
 
 -- a transaction with its index reads as a list has them, its index_conflict as given
 unfoldable pub indexReadsFrom : IndexReadList → Bool → Tx → Tx
-indexReadsFrom l conflict x = record { txid = x .txid; «snapshot_xmin» = x .«snapshot_xmin»; «snapshot_xmax» = x .«snapshot_xmax»; snapshot = x .snapshot; «snapshot_count» = x .«snapshot_count»; writes = x .writes; «write_count» = x .«write_count»; reads = x .reads; «read_count» = x .«read_count»; «index_reads» = l .at; «index_read_count» = l .count; «index_conflict» = conflict; savepoints = x .savepoints; «savepoint_count» = x .«savepoint_count» }
+indexReadsFrom l conflict x = withIndexReadArray (l .at) (l .count) conflict x
 
 pub index-reads-from : (l : IndexReadList) (m : List IndexRead) (conflict : Bool) (x : Tx) → l ≡ indexReadList m → indexReadsFrom l conflict x ≡ withIndexReads m conflict x
 unfolding indexReadsFrom indexReadList

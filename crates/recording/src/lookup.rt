@@ -1,12 +1,13 @@
 // What a lookup records and finds, over its marked candidates.
 
 ghost use mathlib.Core.Path.{_≡_};
+ghost use Rattle.rules.specs.Store.{carries};
 ghost use Rattle.rules.specs.Transaction.{readsOf};
 ghost use Rattle.fields.specs.Lent.{atRows, atPlaces, flagsAtPlaces, flagsAtRows};
 ghost use Rattle.recording.specs.MarkedRows.{markedRows};
 ghost use Rattle.recording.specs.ReadList.{laid};
 ghost use Rattle.recording.specs.FoundRows.{rowList};
-ghost use Rattle.recording.specs.LookupTurns.{recordReadsOf, hasKey, matchingOf};
+ghost use Rattle.recording.specs.LookupTurns.{recordReadsOf, matchingOf};
 use super::reads::ReadList;
 use super::reads::reads_of;
 use super::reads::record_read;
@@ -47,7 +48,7 @@ fn has_key<'a>(
     p: SlotPtr,
     k: u32,
 ) -> bool
-    ensures { λ b. ⌜ b ≡ hasKey (atPlaces (now (key .entry))) (flagsAtPlaces (now (has .entry))) k (p .0) ⌝ }
+    ensures { λ b. ⌜ b ≡ carries (atPlaces (now (key .entry))) (flagsAtPlaces (now (has .entry))) (p .0) k ⌝ }
 {
     if flag_at(has, p) {
         key_at(key, p) == k

@@ -1,2 +1,4 @@
 pub mod Limits
+pub mod Setters
+pub mod Relations
 pub mod Zero

@@ -1,7 +1,7 @@
 -- The limits of "Store and transaction". Every other definition and every law names them. (src/lib.rt names the same limits for the
 -- arrays; the contracts of `Store::fresh`, `Tx::zero` and `Schedule::none` tie the two together.)
 use mathlib.Core.List.{List}
-use Prim.Native.Nat.{ℕ, suc}
+use Prim.Native.Nat.{ℕ, suc, _+_}
 use lib.ListN.{replicate}
 
 -- "64 row ids (0 to 63)"
@@ -61,6 +61,24 @@ clockEnd = 18446744073709551615
 -- "Replay": "place 0 to 15"
 abbrev pub placeLimit : ℕ
 placeLimit = 16
+
+-- the digits that every place, every number of 32 bits and every number of 64 bits can be written with
+abbrev pub placeDigits : ℕ
+placeDigits = 2
+
+abbrev pub digits32 : ℕ
+digits32 = 10
+
+abbrev pub digits64 : ℕ
+digits64 = 20
+
+-- the puts of the longest run: guards taken, insertions, removals, marks and heads, slots freed, the drop, stamps, a poison, guards released
+abbrev pub putLimit : ℕ
+putLimit = stripes + partitions + writeLimit + writeLimit + (writeLimit + writeLimit) + places + 1 + (stripes + 1) + (stripes + partitions)
+
+-- more than any place of a store's arrays
+abbrev pub placeBase : ℕ
+placeBase = rows + places + stripes + partitions
 
 -- no slot marked; shut, since a goal would show all its zeros
 unfoldable pub noMarks : List ℕ

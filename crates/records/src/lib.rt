@@ -163,6 +163,12 @@ impl Tx {
 
     pub const SAVEPOINTS: usize = 4;
 
+    // the transactions of a script: "place 0 to 15"
+    pub const PLACES: usize = 16;
+
+    // the digits of a place
+    pub const PLACE_DIGITS: usize = 2;
+
     // The zero transaction.
     pub fn zero() -> Tx
         ensures { λ r. ⌜ r ≡ zeroTx ⌝ }

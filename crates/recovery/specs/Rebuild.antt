@@ -7,6 +7,7 @@ use native.Mathlib.Omega.{arith}
 use lib.ListN.{length, getD, take, drop, replicate, length-drop}
 use lib.Seq.{drop-cons, take-all}
 use Rattle.records.specs.Limits.{rows, postingLimit}
+use Rattle.records.specs.Relations.{rows-posted}
 use Rattle.rules.specs.Lists.{pad, into}
 use Rattle.rules.specs.Store.{posting}
 use Rattle.rules.specs.Admitted.{headPostings}
@@ -36,7 +37,7 @@ module _ (key : List ℕ) (has : List Bool) (heads : List ℕ) where
 
   postings-fit : (r : ℕ) → length (postingsFrom r) ≤ postingLimit
   unfolding postingsFrom
-  postings-fit r = omega (arith, heads-length key has r (drop r (atRows heads)), length-drop r (atRows heads), array-length rows 0 heads)
+  postings-fit r = omega (arith, heads-length key has r (drop r (atRows heads)), length-drop r (atRows heads), array-length rows 0 heads, rows-posted)
 
   -- one row more, whose head is i
   postings-next : (q i : ℕ) → q < rows → i ≡ getD heads q 0

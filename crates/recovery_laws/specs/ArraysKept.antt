@@ -9,6 +9,7 @@ use lib.ListN.{length, getD, set, replicate, length-set}
 use lib.Seq.{getD-set-same, getD-set-other, ext-getD}
 use lib.Dec.{eqb}
 use borrow.Author.Tests.{eqb-true, eqb-false}
+use Rattle.run_laws.specs.GuardPuts.{set-all-blank}
 use Rattle.rules.specs.Lists.{memb, keep, pad}
 use Rattle.rules.specs.Chains.{on}
 use Rattle.rules.specs.Recovery.{clear}
@@ -81,11 +82,7 @@ once f h xmax = cond (f (getD xmax h 0)) xmax (set xmax h 0)
 
 -- 0 stays 0
 pub set-zero : (l : List ℕ) (h x : ℕ) → getD l x 0 ≡ 0 → getD (set l h 0) x 0 ≡ 0
-set-zero [] h x e = refl
-set-zero (y ∷ l) zero zero e = refl
-set-zero (y ∷ l) zero (suc x) e = e
-set-zero (y ∷ l) (suc h) zero e = e
-set-zero (y ∷ l) (suc h) (suc x) e = set-zero l h x e
+set-zero l h x e = set-all-blank 0 (h ∷ []) l x (λ _. e)
 
 once-zero : (f : ℕ → Bool) (h : ℕ) (xmax : List ℕ) (x : ℕ) → getD xmax x 0 ≡ 0 → getD (once f h xmax) x 0 ≡ 0
 once-zero f h xmax x e = by (f (getD xmax h 0)) (λ k. rw k e) (λ k. rw k (set-zero xmax h x e))

@@ -22,7 +22,7 @@ use Rattle.run_laws.specs.Kinds.{taken-kinds, release-kinds, insertions-kind, r
 use Rattle.basic_laws.specs.Members.{all-mem}
 use Rattle.recovery_laws.specs.Calm.{calm}
 use Rattle.recovery_laws.specs.PutBlocks.{guards-kinds, insert-kinds, remove-kinds}
-use Rattle.recovery_laws.specs.OwnFreed.{set-blank}
+use Rattle.run_laws.specs.GuardPuts.{set-blank}
 
 abbrev pub counted : List ℕ
 counted = kStripe ∷ kPartition ∷ kInsert ∷ kRemove ∷ kXmax ∷ kHead ∷ kFree ∷ kDrop ∷ kStamp ∷ kPoison ∷ kDoom ∷ []

@@ -1,6 +1,7 @@
 -- What a row shows; the versions of its chain.
 pub mod Shown
 pub mod Versions
+pub mod Carried
 -- Theorem R: recovery.
 pub mod ArraysKept
 pub mod Recovering

@@ -1,9 +1,9 @@
 -- Slots freed: a slot off every chain, and the slots of a txid one after the other.
-use mathlib.Core.Path.{_≡_, refl, sym, ap, _∙_}
+use mathlib.Core.Path.{_≡_, sym, ap, _∙_}
 use mathlib.Core.Bool.{Bool, true, false}
 use mathlib.Core.List.{List, [], _∷_, map}
 use mathlib.Core.Logic.{⊎-elim}
-use Prim.Native.Nat.{ℕ, zero, suc, _<_}
+use Prim.Native.Nat.{ℕ, _<_}
 use native.Mathlib.Omega.{arith}
 use lib.ListN.{length, getD, set, length-set}
 use lib.Seq.{getD-set-other}
@@ -12,24 +12,19 @@ use borrow.Author.Tests.{eqb-true, eqb-false}
 use Rattle.rules.specs.Lists.{memb, firstOf}
 use Rattle.rules.specs.Types.{Store, Value}
 use Rattle.rules.specs.Admitted.{finished}
-use Rattle.rules.specs.Puts.{putFree, apply}
+use Rattle.rules.specs.Puts.{putFree, apply, applyAll}
+use Rattle.run_laws.specs.GuardPuts.{set-blank}
 use Rattle.basic_laws.specs.Cases.{by, clash, or-true, mem-here, mem-there, mem-ne}
-use Rattle.basic_laws.specs.Chain.{chain-set}
 use Rattle.basic_laws.specs.Check.{Good}
 use Rattle.admitted_laws.specs.Repairable.{Mends, Off}
-use Rattle.admitted_laws.specs.Resting.{Sole}
+use Rattle.admitted_laws.specs.Resting.{Rests, Sole}
+use Rattle.recovery_laws.specs.Carried.{SlotsAside, slots-mend, slots-rest}
 use Rattle.statements.specs.Words.{shownIn}
 use Rattle.recovery_laws.specs.Versions.{good-cong, first-same, first-in}
 use Rattle.recovery_laws.specs.Unfinished.{dropped}
 use Rattle.recovery_laws.specs.ArraysKept.{set-zero}
 use Rattle.recovery_laws.specs.Along.{To}
 use Rattle.recovery_laws.specs.Live.{Live, Lives, Due}
-
--- a place set to the blank holds it
-pub set-blank {ℓ} : {A : Type ℓ} (l : List A) (s : ℕ) (z : A) → getD (set l s z) s z ≡ z
-set-blank [] s z = refl
-set-blank (x ∷ l) zero z = refl
-set-blank (x ∷ l) (suc s) z = set-blank l s z
 
 module _ (X : Store) (L : ℕ → List ℕ) (s : ℕ) (off : Off (X .heads) L s) where
   -- what stands on chains stays
@@ -48,11 +43,19 @@ module _ (X : Store) (L : ℕ → List ℕ) (s : ℕ) (off : Off (X .heads) L s)
       let ne : p ≡ s → ⊥ = λ e. ⊎-elim (λ k. nz (sym e ∙ k)) (λ k. mem-ne p s (L r) k (off r lt) e) (first-in g (L r)) in
       rw (first-same (λ p. f (getD (set (X .xmin) s 0) p 0)) g (L r) (λ x m. ap f (kept (X .xmin) 0 0 r x lt m)), getD-set-other (X .key) s p 0 0 ne, getD-set-other (X .has) s p false false ne)
 
-  -- the store stays repairable
-  mends-freed : Mends X L → Mends (apply (putFree s) X) L
-  mends-freed M = record {
-    started = M .started;
-    slots = record {
+  -- the slots are what a repairable store's are
+  freed-aside : Mends X L
+      → SlotsAside X L (set (X .xmin) s 0) (set (X .xmax) s 0) (set (X .next) s 0) (set (X .key) s 0) (set (X .has) s false) (set (X .locked) s false) (set (X .owner) s 0)
+  freed-aside M = record {
+    kept = λ r x lt m. record {
+      xmin = kept (X .xmin) 0 0 r x lt m;
+      xmax = kept (X .xmax) 0 0 r x lt m;
+      next = kept (X .next) 0 0 r x lt m;
+      key = kept (X .key) 0 0 r x lt m;
+      has = kept (X .has) false false r x lt m;
+    };
+    long = length-set (X .next) s 0;
+    form = record {
       first = set-zero (X .xmin) s 0 (M .slots .first);
       free = λ p e. by (eqb p s)
           (λ k. rw (eqb-true p s k) (record { unmarked = set-blank (X .xmax) s 0; unlinked = set-blank (X .next) s 0; empty = set-blank (X .has) s false; unlocked = set-blank (X .locked) s false; unowned = set-blank (X .owner) s 0 }))
@@ -70,30 +73,27 @@ module _ (X : Store) (L : ℕ → List ℕ) (s : ℕ) (off : Off (X .heads) L s)
           (λ k. let n = eqb-false p s k in
           getD-set-other (X .key) s p 0 0 n ∙ M .slots .absent p (sym (getD-set-other (X .has) s p false false n) ∙ e));
     };
-    listed = M .listed;
     below = λ p. by (eqb p s)
         (λ k. rw (eqb-true p s k, set-blank (X .xmin) s 0) (omega (arith, M .started)))
         (λ k. rw (getD-set-other (X .xmin) s p 0 0 (eqb-false p s k)) (M .below p));
-    doom = M .doom;
-    stands = record {
-      chains = record {
-        chain = λ r lt. chain-set (X .next) (getD (X .heads) r 0) (L r) s 0 (off r lt) (M .stands .chains .chain r lt);
-        apart = M .stands .chains .apart;
-      };
-      led = λ r x lt m. rw (kept (X .xmin) 0 0 r x lt m) (M .stands .led r x lt m);
-      versions = λ r lt. good-freed (finished (X .active) (X .doomed)) r lt (M .stands .versions r lt);
-      off = λ p u o. by (eqb p s)
-          (λ k. absurd (omega (arith, rw (eqb-true p s k) at u, set-blank (X .xmin) s 0)))
-          (λ k. let n = eqb-false p s k in
-          let e = getD-set-other (X .xmin) s p 0 0 n in
-          let O = M .stands .off p (rw e at u) o in
-          record {
-            unfinished = rw e (O .unfinished);
-            unmarked = getD-set-other (X .xmax) s p 0 0 n ∙ O .unmarked;
-            within = rw (getD-set-other (X .next) s p 0 0 n) (O .within);
-          });
-    };
+    off = λ p u o. by (eqb p s)
+        (λ k. absurd (omega (arith, rw (eqb-true p s k) at u, set-blank (X .xmin) s 0)))
+        (λ k. let n = eqb-false p s k in
+        let e = getD-set-other (X .xmin) s p 0 0 n in
+        let O = M .stands .off p (rw e at u) o in
+        record {
+          unfinished = rw e (O .unfinished);
+          unmarked = getD-set-other (X .xmax) s p 0 0 n ∙ O .unmarked;
+          within = rw (getD-set-other (X .next) s p 0 0 n) (O .within);
+        });
   }
+
+  -- so the store stays repairable, and at rest
+  mends-freed : Mends X L → Mends (apply (putFree s) X) L
+  mends-freed M = slots-mend X L _ _ _ _ _ _ _ (freed-aside M) M
+
+  rests-freed : Rests X L → Rests (apply (putFree s) X) L
+  rests-freed R = slots-rest X L _ _ _ _ _ _ _ (freed-aside (R .mends)) R
 
   sole-freed : (f : ℕ → Bool) (who : ℕ) → Sole (X .heads) (X .xmin) (X .xmax) f L who → Sole (X .heads) (set (X .xmin) s 0) (set (X .xmax) s 0) f L who
   sole-freed f who N = record {
@@ -110,6 +110,12 @@ module _ (X : Store) (L : ℕ → List ℕ) (s : ℕ) (off : Off (X .heads) L s)
     sole = sole-freed (finished act doom) who (K .sole);
     shows = λ r lt. shown-freed nz (finished act doom) r (omega (arith, K .long .heads)) ∙ K .shows r lt;
   }
+
+-- slots off every chain freed, one after the other: the store stays at rest
+pub frees-rest : (ps : List ℕ) (X : Store) (L : ℕ → List ℕ) → ((p : ℕ) → memb p ps ≡ true → Off (X .heads) L p)
+    → Rests X L → Rests (applyAll (map putFree ps) X) L
+frees-rest [] X L o R = R
+frees-rest (s ∷ ps) X L o R = frees-rest ps (apply (putFree s) X) L (λ p m. o p (mem-there p s ps m)) (rests-freed X L s (o s (mem-here s ps)) R)
 
 -- a txid's slots freed, one after the other
 module _ (t : ℕ) (pos : 0 < t) (old new : ℕ → Value) (act : List ℕ) (doom who : ℕ) where

@@ -9,6 +9,7 @@ use lib.ListN.{length, getD, replicate, length-map, length-replicate, List·getD
 use lib.Dec.{eqb, ltb}
 use borrow.Author.Tests.{eqb-true, eqb-false}
 use Rattle.records.specs.Limits.{rows, places, postingLimit, stripes, partitions, activeLimit, keyEnd}
+use Rattle.records.specs.Relations.{rows-posted}
 use Rattle.rules.specs.Lists.{all, memb, keep, pad}
 use Rattle.rules.specs.Types.{Store}
 use Rattle.rules.specs.Store.{used, valueAt, postingsOf, activeTxids}
@@ -171,7 +172,7 @@ module _ (S : Store) (L : ℕ → List ℕ) (z : Sized S) (M : Mends S L) where
   -- the postings found, taken back from their array
   found-back : postingsOf (recovered S) ≡ headPostings (S .key) (S .has) 0 hs
   unfolding recovered postingsOf
-  found-back = take-pad postingLimit 0 (headPostings (S .key) (S .has) 0 hs) (omega (arith, heads-length (S .key) (S .has) 0 hs, heads-long, z .heads))
+  found-back = take-pad postingLimit 0 (headPostings (S .key) (S .has) 0 hs) (omega (arith, heads-length (S .key) (S .has) 0 hs, heads-long, z .heads, rows-posted))
 
   -- they are the heads' of the new store
   found-same : headPostings (keep 0 seen (S .key)) (keep false seen (S .has)) 0 hs ≡ headPostings (S .key) (S .has) 0 hs

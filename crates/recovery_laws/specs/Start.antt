@@ -1,16 +1,16 @@
 -- Where a commit starts: what a resting store and a fit transaction give to publication and to abort.
 use mathlib.Core.Path.{_≡_, refl, sym, ap, _∙_}
-use mathlib.Core.Bool.{Bool, true, false, not, _&&_}
+use mathlib.Core.Bool.{Bool, true, false, not}
 use mathlib.Core.List.{List, [], _∷_}
 use Prim.Native.Nat.{ℕ, _<_}
 use native.Mathlib.Omega.{arith}
 use lib.ListN.{length, getD}
 use lib.Dec.{eqb}
-use borrow.Author.Tests.{eqb-true, eqb-false, eq-eqb, ltb-true, lt-ltb, leb-true, not-true, not-false}
+use borrow.Author.Tests.{eqb-true, eqb-false, ltb-true, leb-true, not-true, not-false}
 use Rattle.records.specs.Limits.{rows, slots}
 use Rattle.rules.specs.Lists.{all, any, memb}
 use Rattle.rules.specs.Types.{Store, Tx, Write}
-use Rattle.rules.specs.Store.{used, usedSlots, valueAt, activeTxids}
+use Rattle.rules.specs.Store.{valueAt, activeTxids}
 use Rattle.rules.specs.Transaction.{writesOf, finals}
 use Rattle.rules.specs.Chains.{walk, on}
 use Rattle.rules.specs.Admitted.{finished, resting}
@@ -20,12 +20,13 @@ use Rattle.rules.specs.Tests.{writeBaseConflict}
 use Rattle.rules.specs.Changes.{recycled}
 use Rattle.basic_laws.specs.Cases.{by, clash, and-true, or-false, or-left, or-right}
 use Rattle.basic_laws.specs.Rising.{rising-from}
-use Rattle.basic_laws.specs.Members.{Each, mem-those, mem-nonzero}
+use Rattle.basic_laws.specs.Members.{Each}
 use Rattle.basic_laws.specs.Chained.{Chained}
 use Rattle.basic_laws.specs.Check.{Tail}
 use Rattle.statements.specs.Sized.{Sized}
 use Rattle.basic_laws.specs.TestParts.{write-parts, fit-parts}
 use Rattle.run_laws.specs.FinalWrites.{distinct, finals-all, finals-distinct}
+use Rattle.run_laws.specs.OwnSlots.{own-parts, parts-own, recycled-is, recycled-parts}
 use Rattle.run_laws.specs.PublishedChains.{newPointers}
 use Rattle.basic_laws.specs.Places.{is-rising}
 use Rattle.admitted_laws.specs.Repairable.{Off, marks}
@@ -78,23 +79,19 @@ module _ (S : Store) (L : ℕ → List ℕ) (z : Sized S) (R : Rests S L) (t : �
   seen-off p n r lt = by (memb p (L r)) (λ m. clash (C .marked r p lt m) n) (λ m. m)
 
   -- the txid's off-chain slots
-  own-is : (p : ℕ) → memb p own ≡ (used (S .xmin) p && (eqb (getD (S .xmin) p 0) t && not (on seen p)))
-  unfolding ownSlots
-  own-is p = mem-those (λ q. eqb (getD (S .xmin) q 0) t && not (on seen q)) (usedSlots (S .xmin)) p ∙ rw (mem-nonzero (S .xmin) p)
-
-  own-idle : (p : ℕ) → memb p own ≡ true → Off (S .heads) L p × (p ≡ 0 → ⊥)
+  pub own-idle : (p : ℕ) → memb p own ≡ true → Off (S .heads) L p × (p ≡ 0 → ⊥)
   own-idle p m =
-      let a = and-true (used (S .xmin) p) (eqb (getD (S .xmin) p 0) t && not (on seen p)) (sym (own-is p) ∙ m) in
-      let b = and-true (eqb (getD (S .xmin) p 0) t) (not (on seen p)) (a .1) in
-      (seen-off p (not-true (on seen p) (b .1)), λ e. omega (arith, ltb-true 0 (getD (S .xmin) p 0) (a .0), ap (λ (q : ℕ). getD (S .xmin) q 0) e, R .mends .slots .first))
+      let o = own-parts (S .heads) (S .next) (S .xmin) t p m in
+      (seen-off p (o .off), λ e. omega (arith, o .some, ap (λ (q : ℕ). getD (S .xmin) q 0) e, R .mends .slots .first))
 
-  own-mine : (p : ℕ) → Off (S .heads) L p → getD (S .xmin) p 0 ≡ t → memb p own ≡ true
-  own-mine p o e = own-is p ∙ rw (off-seen p o, eq-eqb (getD (S .xmin) p 0) t e, lt-ltb 0 (getD (S .xmin) p 0) (omega (arith, txid-positive)))
+  pub own-mine : (p : ℕ) → Off (S .heads) L p → getD (S .xmin) p 0 ≡ t → memb p own ≡ true
+  own-mine p o e = parts-own (S .heads) (S .next) (S .xmin) t p (record { some = omega (arith, e, txid-positive); mine = e; off = off-seen p o })
 
-  -- abort: t stands on no chain, unless it is doomed
-  steady : (v : ℕ) → (v ≡ t → t ≡ S .doomed) → finished (dropped (S .active) t) (S .doomed) v ≡ f v
+  -- abort: a txid found on a chain is as finished as before: it is another one, or doomed
+  pub steady : (v : ℕ) → (f v ≡ false → v ≡ S .doomed) → finished (dropped (S .active) t) (S .doomed) v ≡ f v
   steady v h = by (eqb v t)
-      (λ e. let d = h (eqb-true v t e) in
+      (λ e. let v-is = eqb-true v t e in
+      let d : t ≡ S .doomed = sym v-is ∙ h (rw v-is txid-unfinished) in
       rw (← d) (drop-doomed (S .active) (S .clock) (R .mends .listed) (z .active) t v (λ q. omega (arith, txid-positive)) (active-in t (S .active) active)))
       (λ e. drop-other (S .active) (S .clock) (R .mends .listed) (z .active) t (S .doomed) v (eqb-false v t e))
 
@@ -102,9 +99,9 @@ module _ (S : Store) (L : ℕ → List ℕ) (z : Sized S) (R : Rests S L) (t : �
   pub due-start : Due t (shown S) (shown S) (S .active) (S .doomed) (S .doomed) own S
   due-start =
       let created : (r x : ℕ) → r < length (S .heads) → memb x (L r) ≡ true → finished (dropped (S .active) t) (S .doomed) (getD (S .xmin) x 0) ≡ f (getD (S .xmin) x 0)
-      = λ r x lt m. steady (getD (S .xmin) x 0) (λ e. sym e ∙ R .created r x lt m (rw e txid-unfinished)) in
+      = λ r x lt m. steady (getD (S .xmin) x 0) (R .created r x lt m) in
       let ended : (r x : ℕ) → r < length (S .heads) → memb x (L r) ≡ true → finished (dropped (S .active) t) (S .doomed) (getD (S .xmax) x 0) ≡ f (getD (S .xmax) x 0)
-      = λ r x lt m. steady (getD (S .xmax) x 0) (λ e. sym e ∙ R .ended r x lt m (rw e txid-unfinished)) in
+      = λ r x lt m. steady (getD (S .xmax) x 0) (R .ended r x lt m) in
       record {
         L = L;
         live = live-start (S .doomed) (rests-sole S L R);
@@ -152,7 +149,7 @@ conflicts heads w = not (eqb (getD heads (w .row .0) 0) (w .base .0))
 
 -- publication: past the tests, on a store that isn't poisoned
 module _ (S : Store) (L : ℕ → List ℕ) (z : Sized S) (R : Rests S L) (x : Tx) (active : memb (x .txid .0) (activeTxids (S .active)) ≡ true)
-    (fits : fit S x ≡ true) (healthy : S .poisoned ≡ false) (based : writeBaseConflict (S .heads) x ≡ false) where
+    (fits : fit S x ≡ true) (healthy : S .poisoned ≡ false) (based : writeBaseConflict S x ≡ false) where
   abbrev me : ℕ
   me = x .txid .0
 
@@ -197,11 +194,6 @@ module _ (S : Store) (L : ℕ → List ℕ) (z : Sized S) (R : Rests S L) (x : T
   unfolding finals
   finals-apart = finals-distinct (writesOf x) (fit-parts S x fits .apart)
 
-  -- the slots recycled are the txid's that no final write has
-  recycled-is : (p : ℕ) → memb p (recycled S x) ≡ (memb p (ownSlots (S .heads) (S .next) (S .xmin) me) && not (memb p (newPointers (finals x))))
-  unfolding recycled
-  recycled-is p = mem-those (λ q. not (memb q (newPointers (finals x)))) (ownSlots (S .heads) (S .next) (S .xmin) me) p
-
   -- so publication can start
   pub on-start : On me (shown S) (S .active) (S .doomed) (S .key) (S .has) (recycled S x) (finals x) (shown S) S
   on-start = record {
@@ -214,10 +206,10 @@ module _ (S : Store) (L : ℕ → List ℕ) (z : Sized S) (R : Rests S L) (x : T
     apart = finals-apart;
     heads-are = λ r lt. sym (shows-first S L R healthy z r lt);
     idle = λ p m.
-        let a = and-true (memb p (ownSlots (S .heads) (S .next) (S .xmin) me)) (not (memb p (newPointers (finals x)))) (sym (recycled-is p) ∙ m) in
-        let i = own-idle S L z R me active p (a .0) in
-        (i .0, i .1, not-true (memb p (newPointers (finals x))) (a .1));
+        let a = recycled-parts S x p m in
+        let i = own-idle S L z R me active p (parts-own (S .heads) (S .next) (S .xmin) me p (a .0)) in
+        (i .0, i .1, a .1);
     mine = λ p o e. by (memb p (newPointers (finals x)))
         (λ k. or-left (memb p (newPointers (finals x))) (memb p (recycled S x)) k)
-        (λ k. or-right (memb p (newPointers (finals x))) (memb p (recycled S x)) (recycled-is p ∙ rw (own-mine S L z R me active p o e, k)));
+        (λ k. or-right (memb p (newPointers (finals x))) (memb p (recycled S x)) (recycled-is S x p ∙ rw (own-mine S L z R me active p o e, k)));
   }

@@ -15,10 +15,11 @@ use Rattle.rules.specs.Transaction.{finals}
 use Rattle.rules.specs.Admitted.{finished}
 use Rattle.rules.specs.Numbers.{numberOf, fate}
 use Rattle.rules.specs.Puts.{Put, putFree, putDrop, putPoison, putDoom, apply, ownSlots, abortPuts}
-use Rattle.rules.specs.Tests.{indexReadConflict, rowLockConflict, serializationConflict, writeBaseConflict}
+use Rattle.rules.specs.Tests.{writeBaseConflict}
+use Rattle.run_laws.specs.FourTests.{bases-agree}
 use Rattle.rules.specs.Changes.{changes, destinations, recycled, release, insertions, removals, publication, recycling, stamping}
 use Rattle.rules.specs.Commit.{End, poison, fails, count, finish, abortOrPoison}
-use Rattle.basic_laws.specs.Cases.{by, or-false}
+use Rattle.basic_laws.specs.Cases.{by}
 use Rattle.run_laws.specs.OnlyKinds.{only, only-both, only-take, only-if}
 use Rattle.run_laws.specs.Outcome.{Taken, Stay, faulted, durable, Abort, unprepared, panicked, busy, conflict, unhealthy, Passed, guardsTaken, afterInsert, afterRemove, afterPublish, afterRecycle, afterFinish, afterStamp, aborting, rollingBack, worse, panics, undoing, abortingLate, bad, Spoil, unremoved, unpublished, unrecycled, unfinished, Outcome, done, stays, aborts, uninserted, uncalled, spoils, unstamped}
 use Rattle.statements.specs.Words.{stands, Admitted, shown, withNew}
@@ -125,11 +126,8 @@ module _ (S : Store) (x : Tx) (logged : Bool) (plan : Schedule) where
 
     -- past the tests: publication, recycling, the finish
     module _ (p : Passed S x logged plan) where
-      pub based : writeBaseConflict (S .heads) x ≡ false
-      based =
-          let a = or-false (indexReadConflict (S .stamps) x) (rowLockConflict S x || (serializationConflict (S .xmin) (S .xmax) x || writeBaseConflict (S .heads) x)) (p .agreed) in
-          let b = or-false (rowLockConflict S x) (serializationConflict (S .xmin) (S .xmax) x || writeBaseConflict (S .heads) x) (a .1) in
-          or-false (serializationConflict (S .xmin) (S .xmax) x) (writeBaseConflict (S .heads) x) (b .1) .1
+      pub based : writeBaseConflict S x ≡ false
+      based = bases-agree S x (p .agreed)
 
       undoomed : S .doomed ≡ 0
       undoomed = R .undoomed (p .healthy)

@@ -2,12 +2,13 @@
 use mathlib.Core.Path.{_≡_}
 use mathlib.Core.Bool.{cond}
 use mathlib.Core.List.{List, [], _∷_, _++_}
-use Prim.Native.Nat.{ℕ, _+_, _%_, _^_, _<_, _≤_}
+use Prim.Native.Nat.{ℕ, suc, _+_, _%_, _^_, _<_, _≤_}
 use lib.Dec.{eqb, leb}
 use lib.ListN.{length, take, drop}
 use Rattle.rules.specs.Replay.{Desk, start, turn}
 use Rattle.rules.specs.Script.{Bytes, split, lineOf, write}
 use Rattle.script.specs.Print.{room}
+use Rattle.script.specs.Text.{longest}
 use Rattle.replay_core.specs.declared.held.Held.{Held}
 use Rattle.replay_core.specs.declared.feed.Replay.{Replay}
 use Rattle.replay_core.specs.declared.feed.Fed.{Fed}
@@ -25,7 +26,7 @@ pub record Part : Type 0 where
 
 -- no form has so many bytes, so a longer line is as bad as its beginning
 abbrev pub heldRoom : ℕ
-heldRoom = 27
+heldRoom = suc longest
 
 -- an answer line has at most so many bytes
 abbrev pub answerRoom : ℕ

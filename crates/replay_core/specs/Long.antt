@@ -1,4 +1,4 @@
--- No form has more than 26 bytes, so a longer line is bad, and the bytes that are held of it are bad too.
+-- No form has more bytes than the longest, so a longer line is bad, and the bytes that are held of it are bad too.
 use mathlib.Core.Path.{_≡_, refl, sym, ap, _∙_}
 use mathlib.Core.Bool.{Bool, true, false}
 use mathlib.Core.List.{[], _∷_, _++_}
@@ -8,14 +8,15 @@ use lib.Dec.{ltb, leb}
 use lib.ListN.{length, take, length-append, length-take}
 use lib.Seq.{take-all}
 use borrow.Author.Tests.{ltb-true, ltb-false, leb-true, leb-false}
-use Rattle.records.specs.Limits.{keyEnd, placeLimit}
+use Rattle.records.specs.Limits.{keyEnd, placeLimit, placeDigits, digits32, digits64}
+use Rattle.records.specs.Relations.{place-written, narrow-written}
 use Rattle.basic_laws.specs.Cases.{by}
 use Rattle.rules.specs.Types.{Value, Absent, Key, Uncut, After}
 use Rattle.rules.specs.Replay.{Line, lineB, lineR, lineW, lineL, lineK, lineA, lineC, lineF, lineV, lineBad}
 use Rattle.rules.specs.Script.{Bytes, split, lineOf, decimal}
 use Rattle.script.specs.Print.{inDecimal}
 use Rattle.script.specs.PrintLaws.{digit-last, digit-more}
-use Rattle.script.specs.Text.{numberText, valueText, modeText, textOf, Key32, Proper}
+use Rattle.script.specs.Text.{numberText, valueText, modeText, textOf, longest, Key32, Proper}
 use Rattle.script.specs.Accepted.{rejected}
 use Rattle.replay_core.specs.Feed.{heldRoom}
 
@@ -30,15 +31,15 @@ few-digits (suc f) (suc (suc k)) n rest p l =
     (λ t. rw (digit-more (suc f) f n rest refl (ltb-false _ _ t))
     (omega (arith, few-digits f (suc k) (n / 10) ((48 + n % 10) ∷ rest) (omega arith) (omega arith))))
 
-number-few : (n : ℕ) → n < keyEnd → length (numberText n) ≤ 10
+number-few : (n : ℕ) → n < keyEnd → length (numberText n) ≤ digits32
 unfolding inDecimal
-number-few n h = few-digits 20 10 n [] (omega arith) (omega arith)
+number-few n h = few-digits digits64 digits32 n [] (omega arith) (omega (arith, narrow-written))
 
-place-few : (i : ℕ) → i < placeLimit → length (numberText i) ≤ 2
+place-few : (i : ℕ) → i < placeLimit → length (numberText i) ≤ placeDigits
 unfolding inDecimal
-place-few i h = few-digits 20 2 i [] (omega arith) (omega arith)
+place-few i h = few-digits digits64 placeDigits i [] (omega arith) (omega (arith, place-written))
 
-value-few : (v : Value) → Key32 v → length (valueText v) ≤ 10
+value-few : (v : Value) → Key32 v → length (valueText v) ≤ digits32
 value-few Absent h = omega arith
 value-few (Key k) h = number-few k h
 
@@ -46,8 +47,7 @@ mode-one : (m : Bool) → length (modeText m) ≡ 1
 mode-one false = refl
 mode-one true = refl
 
--- "W place row key" is the longest form
-text-short : (l : Line) → Proper l → length (textOf l) ≤ 26
+text-short : (l : Line) → Proper l → length (textOf l) ≤ longest
 text-short (lineB i) p = omega (arith, place-few i p)
 text-short (lineR i r) p = omega (arith, length-append (numberText i) (9 ∷ numberText r), place-few i (p .0), number-few r (p .1))
 text-short (lineW i r v) p =
@@ -64,7 +64,7 @@ text-short (lineF n b k) p = omega (arith, length-append (numberText n) (9 ∷ b
 text-short lineV p = omega arith
 text-short lineBad p = absurd p
 
-pub long-bad : (w : Bytes) → 26 < length w → lineOf (split 9 w) ≡ lineBad
+pub long-bad : (w : Bytes) → longest < length w → lineOf (split 9 w) ≡ lineBad
 long-bad w h = rejected w .1 (λ l p e. omega (arith, text-short l p, ap length e))
 
 -- so the bytes that are held tell what the line is

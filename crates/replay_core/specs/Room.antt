@@ -12,7 +12,7 @@ unfoldable pub lineFeeds : Bytes → ℕ
 lineFeeds [] = 0
 lineFeeds (b ∷ bs) = cond (eqb b 10) (suc (lineFeeds bs)) (lineFeeds bs)
 
--- 63 bytes for each line: a line feed ends one, and a last one may have none
+-- answerRoom bytes for each line: a line feed ends one, and a last one may have none
 abbrev pub roomFor : Bytes → ℕ
 roomFor s = (lineFeeds s + 1) * answerRoom
 

@@ -1,4 +1,4 @@
--- The room is enough: an answer line has at most 63 bytes, and there are at most as many lines as line feeds and one.
+-- The room is enough: an answer line has at most answerRoom bytes, and there are at most as many lines as line feeds and one.
 use mathlib.Core.Path.{_≡_, refl, sym}
 use mathlib.Core.List.{List, [], _∷_, _++_, append-nil}
 use Prim.Native.Nat.{ℕ, zero, suc, _+_, _*_, _/_, _%_, _^_, _<_, _≤_}
@@ -8,6 +8,7 @@ use lib.Dec.{eqb, ltb}
 use lib.ListN.{length, getD, take, drop, length-append, drop-of-length-le}
 use lib.Seq.{drop-cons}
 use borrow.Author.Tests.{eq-eqb, ne-eqb, le-leb, lt-leb, ltb-true, ltb-false}
+use Rattle.records.specs.Limits.{digits64}
 use Rattle.basic_laws.specs.Cases.{by}
 use Rattle.rules.specs.Replay.{Third, num, dash, Out, turn}
 use Rattle.rules.specs.Script.{Bytes, onFirst, split, lineOf, linesIn, decimal, third, write, replayText}
@@ -24,16 +25,16 @@ digits-short (suc f) n rest =
     (λ t. rw (digit-last (suc f) n rest (omega arith) (ltb-true _ _ t)) (omega arith))
     (λ t. rw (digit-more (suc f) f n rest refl (ltb-false _ _ t)) (omega (arith, digits-short f (n / 10) ((48 + n % 10) ∷ rest))))
 
-third-short : (t : Third) (rest : Bytes) → length (third t rest) ≤ 20 + length rest
-third-short (num n) rest = digits-short 20 n rest
+third-short : (t : Third) (rest : Bytes) → length (third t rest) ≤ digits64 + length rest
+third-short (num n) rest = digits-short digits64 n rest
 third-short dash rest = omega arith
 
 pub answer-short : (n : ℕ) (o : Out) → length (write n (o ∷ [])) ≤ answerRoom
 answer-short n o =
     let end : Bytes = 10 ∷ [] in
     let a = third (o .third) end in
-    let b = decimal 20 (o .number) (9 ∷ a) in
-    omega (arith, third-short (o .third) end, digits-short 20 (o .number) (9 ∷ a), digits-short 20 n (9 ∷ b))
+    let b = decimal digits64 (o .number) (9 ∷ a) in
+    omega (arith, third-short (o .third) end, digits-short digits64 (o .number) (9 ∷ a), digits-short digits64 n (9 ∷ b))
 
 line-short : (s : Reading) → length (lineEnd s .answers) ≤ answerRoom
 unfolding lineEnd
@@ -43,7 +44,7 @@ ended-short : (s : Reading) → length (ended s) ≤ answerRoom
 unfolding ended
 ended-short s = by (eqb (length (s .held)) 0) (λ t. rw t (omega arith)) (λ t. rw t (line-short s))
 
--- at most 63 bytes for each line feed
+-- at most answerRoom bytes for each line feed
 pub fed-short : (bs : Bytes) (s : Reading) → length (fed bs s .answers) ≤ lineFeeds bs * answerRoom
 unfolding fed fedByte lineFeeds
 fed-short [] s = omega arith

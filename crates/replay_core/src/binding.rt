@@ -25,7 +25,7 @@ fn line_feeds(script: &[u8]) -> usize
     n
 }
 
-// So many bytes hold the answers to a script: 63 for each line feed, and 63 more.
+// So many bytes hold the answers to a script: an answer's room for each line feed, and once more.
 #[no_mangle]
 pub extern "C" fn slack_room(script: &[u8]) -> usize
     ensures { λ r. ⌜ r ≡ roomIn (now (script .entry)) ⌝ }

@@ -15,7 +15,7 @@ pub struct Held {
 }
 
 impl Held {
-    pub const ROOM: usize = 27;
+    pub const ROOM: usize = Line::LONGEST + 1;
 
     // No byte yet.
     pub(crate) fn none() -> Held

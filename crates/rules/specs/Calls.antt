@@ -6,10 +6,10 @@ use lib.ListN.{length, getD, drop, replicate}
 use lib.Dec.{eqb, ltb, leb}
 use Rattle.records.specs.Limits.{rows, activeLimit, writeLimit, readLimit, clockEnd, places}
 use Rattle.rules.specs.Lists.{any, memb, those, pad, inOrder, firstOf, firstZero}
-use Rattle.rules.specs.Types.{Store, Tx, RowId, ReadRecord, IndexRead, Reply, Seen, Written, Found, Value, Absent, Key, Open, Closed}
+use Rattle.rules.specs.Types.{Store, Tx, RowId, ReadRecord, IndexRead, Reply, Seen, Written, Found, Value, Absent, Open, Closed}
 use Rattle.rules.specs.Types.{Refusal, NotResting, Unfit, NotActive, FoundPoisoned, ActiveFull, ClockAtEnd, RowTooHigh, ReadsFull, WritesFull, SlotsFull, LockedByAnother, NoHead}
 use Rattle.records.specs.Zero.{onlyTxid, zeroTx}
-use Rattle.rules.specs.Store.{valueAt, sameValue, keyOf, rowOf, stripeOf, postingsOf, activeTxids}
+use Rattle.rules.specs.Store.{valueAt, carries, keyOf, rowOf, stripeOf, postingsOf, activeTxids}
 use Rattle.rules.specs.Transaction.{writesOf, readsOf, indexReadsOf, sees, lastOwn, withWrites, withReads, withIndexReads}
 use Rattle.rules.specs.Chains.{chainFrom}
 use Rattle.rules.specs.Admitted.{resting}
@@ -118,7 +118,7 @@ recordStamp i t l = cond (any (λ e. eqb (e .stripe) i) l) l (l ++ record { stri
 
 -- "kept if the read value is the key"
 unfoldable pub matching : Store → Tx → ℕ → List ℕ
-matching S x k = those (λ r. sameValue (valueAt (S .key) (S .has) (readPtr S x r)) (Key k)) (candidates S x k)
+matching S x k = those (λ r. carries (S .key) (S .has) (readPtr S x r) k) (candidates S x k)
 
 abbrev pub asRow : ℕ → RowId
 asRow r = record { 0 = r }

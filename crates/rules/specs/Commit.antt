@@ -200,10 +200,10 @@ module _ (S : Store) (x : Tx) (logged : Bool) (plan : Schedule) where
       ∷ acquirePartitionLocks
       ∷ ensureUnloggedWriteAllowed
       ∷ checkNotPoisoned
-      ∷ test 11 (indexReadConflict (S .stamps) x)
+      ∷ test 11 (indexReadConflict S x)
       ∷ test 12 (rowLockConflict S x)
-      ∷ test 13 (serializationConflict (S .xmin) (S .xmax) x)
-      ∷ test 14 (writeBaseConflict (S .heads) x)
+      ∷ test 13 (serializationConflict S x)
+      ∷ test 14 (writeBaseConflict S x)
       ∷ prepareIndexDestinations
       ∷ invokeBeforePublish
       ∷ removeIndexSources

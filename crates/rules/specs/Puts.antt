@@ -63,6 +63,10 @@ kKey = 16
 abbrev pub kLock : ℕ
 kLock = 17
 
+-- no kind is higher
+abbrev pub lastKind : ℕ
+lastKind = kLock
+
 -- a kind of change, the place and the number put there
 pub record Put : Type 0 where
   pub kind : ℕ

@@ -3,7 +3,7 @@ use mathlib.Core.Bool.{Bool, true, false, not, cond, _&&_}
 use mathlib.Core.List.{List, [], _∷_, map}
 use Prim.Native.Nat.{ℕ, zero, suc, _+_, _-_, _*_, _/_, _%_}
 use lib.Dec.{eqb, ltb, leb}
-use Rattle.records.specs.Limits.{keyEnd, placeLimit}
+use Rattle.records.specs.Limits.{keyEnd, placeLimit, digits64}
 use Rattle.rules.specs.Lists.{all}
 use Rattle.rules.specs.Types.{Value, Absent, Key, Uncut, After}
 use Rattle.rules.specs.Replay.{Line, lineB, lineR, lineW, lineL, lineK, lineA, lineC, lineF, lineV, lineBad, Third, num, dash, Out, replay}
@@ -85,19 +85,19 @@ lineOf ((c ∷ d ∷ w) ∷ ws) = lineBad
 unfoldable pub parse : Bytes → List Line
 parse bs = map (λ w. lineOf (split 9 w)) (linesIn bs)
 
--- a number in decimal, with what follows it; 20 digits hold every 64-bit number
+-- a number in decimal, with what follows it; digits64 hold every 64-bit number
 abbrev pub decimal : ℕ → ℕ → Bytes → Bytes
 decimal zero n rest = rest
 decimal (suc f) n rest = let r = (48 + n % 10) ∷ rest in elim (ltb n 10) [ true ↦ r | false ↦ decimal f (n / 10) r ]
 
 abbrev pub third : Third → Bytes → Bytes
-third (num n) rest = decimal 20 n rest
+third (num n) rest = decimal digits64 n rest
 third dash rest = 45 ∷ rest
 
 -- "Output: line number, number, then .."
 abbrev pub write : ℕ → List Out → Bytes
 write n [] = []
-write n (o ∷ os) = let rest = write (suc n) os in decimal 20 n (9 ∷ decimal 20 (o .number) (9 ∷ third (o .third) (10 ∷ rest)))
+write n (o ∷ os) = let rest = write (suc n) os in decimal digits64 n (9 ∷ decimal digits64 (o .number) (9 ∷ third (o .third) (10 ∷ rest)))
 
 unfoldable pub replayText : Bytes → Bytes
 replayText bs = write 1 (replay (parse bs))

@@ -26,6 +26,10 @@ sameValue Absent (Key k) = false
 sameValue (Key j) Absent = false
 sameValue (Key j) (Key k) = eqb j k
 
+-- the version at p carries key k
+abbrev pub carries : List ℕ → List Bool → ℕ → ℕ → Bool
+carries key has p k = sameValue (valueAt key has p) (Key k)
+
 -- "A free slot is all zero; an absent key is stored as 0." Place 0 is free.
 unfoldable pub slotsInForm : Store → Bool
 slotsInForm S = every (

@@ -8,6 +8,7 @@ use Rattle.records.specs.Limits.{writeLimit, readLimit, indexReadLimit, savepoi
 use Rattle.rules.specs.Lists.{memb, any, pad}
 use Rattle.rules.specs.Types.{Tx, Write, ReadRecord, IndexRead}
 use Rattle.records.specs.Zero.{noWrite, noRead, noIndexRead}
+use Rattle.records.specs.Setters.{withLists, withReadArray, withIndexReadArray}
 
 abbrev pub writesOf : Tx → List Write
 writesOf x = take (x .«write_count») (x .writes)
@@ -42,16 +43,20 @@ unfoldable pub finals : Tx → List Write
 finals x = finalWrites (writesOf x)
 
 abbrev pub withWrites : List Write → Tx → Tx
-withWrites l x = record { txid = x .txid; «snapshot_xmin» = x .«snapshot_xmin»; «snapshot_xmax» = x .«snapshot_xmax»; snapshot = x .snapshot; «snapshot_count» = x .«snapshot_count»; writes = pad writeLimit noWrite l; «write_count» = length l; reads = x .reads; «read_count» = x .«read_count»; «index_reads» = x .«index_reads»; «index_read_count» = x .«index_read_count»; «index_conflict» = x .«index_conflict»; savepoints = x .savepoints; «savepoint_count» = x .«savepoint_count» }
+withWrites l x =
+    withLists (pad writeLimit noWrite l) (length l) (x .reads) (x .«read_count»)
+    (x .«index_reads») (x .«index_read_count») (x .«index_conflict») (x .savepoints) (x .«savepoint_count») x
 
 abbrev pub withReads : List ReadRecord → Tx → Tx
-withReads l x = record { txid = x .txid; «snapshot_xmin» = x .«snapshot_xmin»; «snapshot_xmax» = x .«snapshot_xmax»; snapshot = x .snapshot; «snapshot_count» = x .«snapshot_count»; writes = x .writes; «write_count» = x .«write_count»; reads = pad readLimit noRead l; «read_count» = length l; «index_reads» = x .«index_reads»; «index_read_count» = x .«index_read_count»; «index_conflict» = x .«index_conflict»; savepoints = x .savepoints; «savepoint_count» = x .«savepoint_count» }
+withReads l x = withReadArray (pad readLimit noRead l) (length l) x
 
 abbrev pub withIndexReads : List IndexRead → Bool → Tx → Tx
-withIndexReads l conflict x = record { txid = x .txid; «snapshot_xmin» = x .«snapshot_xmin»; «snapshot_xmax» = x .«snapshot_xmax»; snapshot = x .snapshot; «snapshot_count» = x .«snapshot_count»; writes = x .writes; «write_count» = x .«write_count»; reads = x .reads; «read_count» = x .«read_count»; «index_reads» = pad indexReadLimit noIndexRead l; «index_read_count» = length l; «index_conflict» = conflict; savepoints = x .savepoints; «savepoint_count» = x .«savepoint_count» }
+withIndexReads l conflict x = withIndexReadArray (pad indexReadLimit noIndexRead l) (length l) conflict x
 
 abbrev pub withSavepoints : List ℕ → Tx → Tx
-withSavepoints l x = record { txid = x .txid; «snapshot_xmin» = x .«snapshot_xmin»; «snapshot_xmax» = x .«snapshot_xmax»; snapshot = x .snapshot; «snapshot_count» = x .«snapshot_count»; writes = x .writes; «write_count» = x .«write_count»; reads = x .reads; «read_count» = x .«read_count»; «index_reads» = x .«index_reads»; «index_read_count» = x .«index_read_count»; «index_conflict» = x .«index_conflict»; savepoints = pad savepointLimit 0 l; «savepoint_count» = length l }
+withSavepoints l x =
+    withLists (x .writes) (x .«write_count») (x .reads) (x .«read_count»)
+    (x .«index_reads») (x .«index_read_count») (x .«index_conflict») (pad savepointLimit 0 l) (length l) x
 
 -- "writes alone emptied"; "writes, reads, index reads emptied"
 abbrev pub noWrites : Tx → Tx

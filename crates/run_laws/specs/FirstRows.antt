@@ -17,10 +17,11 @@ use Rattle.rules.specs.Faults.{F, scheduleFit}
 use Rattle.rules.specs.Numbers.{numberOf, fateIn, fate, isDone}
 use Rattle.rules.specs.Puts.{Put, applyAll}
 use Rattle.rules.specs.Changes.{changes, destinations, sources, changedStripes, guardedStripes, guardedPartitions, indexGuards, partitionGuards, release, publishOne, publication, insertions, removals, recycled, recycling, stamping}
+use Rattle.rules.specs.Tests.{conflicting}
 use Rattle.rules.specs.Commit.{End, runOf, strikes, fails, unloggedWrites}
 use Rattle.rules.specs.Answer.{uncut, cutOff, answer, unchanged, commit}
 use Rattle.run_laws.specs.GuardPuts.{guards-zero, index-back, both-back}
-use Rattle.run_laws.specs.Outcome.{Struck, struck, Taken, neither, index, both, Stay, faulted, durable, conflicting, Abort, unprepared, panicked, busy, conflict, unhealthy, Passed, Spoil, unremoved, unpublished, unrecycled, unfinished, afterStamp, aborting, worse, panics, abortingLate, bad, Outcome, done, stays, aborts, uninserted, uncalled, spoils, unstamped, outcome}
+use Rattle.run_laws.specs.Outcome.{Struck, struck, Taken, neither, index, both, Stay, faulted, durable, Abort, unprepared, panicked, busy, conflict, unhealthy, Passed, Spoil, unremoved, unpublished, unrecycled, unfinished, afterStamp, aborting, worse, panics, abortingLate, bad, Outcome, done, stays, aborts, uninserted, uncalled, spoils, unstamped, outcome}
 use Rattle.statements.specs.Words.{Admitted}
 
 module _ (S : Store) (x : Tx) (logged : Bool) (plan : Schedule) where
@@ -163,7 +164,7 @@ module _ (S : Store) (x : Tx) (logged : Bool) (plan : Schedule) where
   pick-7 false f = refl
 
   quiet : (n : ℕ) (ps : List Put) (d : End) → plan .count ≡ 0 → S .poisoned ≡ false → (unloggedWrites S x logged plan && S .bound) ≡ false
-      → Outcome S x logged plan n ps d → numberOf (d .refusal) ≡ cond (conflicting S x logged plan) 7 0
+      → Outcome S x logged plan n ps d → numberOf (d .refusal) ≡ cond (conflicting S x) 7 0
   quiet _ _ _ q s f (done p) = rw (p .agreed)
   quiet _ _ _ q s f (stays l t (faulted k)) = absurd (no-fault q k)
   quiet _ _ _ q s f (stays l t (durable k)) = clash k f
@@ -184,7 +185,7 @@ module _ (S : Store) (x : Tx) (logged : Bool) (plan : Schedule) where
   -- Demand 2's number: with no fault and no cut, on a store that isn't poisoned, logged or not writing or not durably bound, the answer is
   -- 0 where the four tests say no, and else 7
   pub success : Admitted S x plan → plan .count ≡ 0 → S .poisoned ≡ false → (unloggedWrites S x logged plan && S .bound) ≡ false
-      → numberOf (commit S x logged plan Uncut .refusal) ≡ cond (conflicting S x logged plan) 7 0
+      → numberOf (commit S x logged plan Uncut .refusal) ≡ cond (conflicting S x) 7 0
   unfolding uncut
   success ok q s f = rw (admitted S x logged plan Uncut ok) (quiet _ _ _ q s f (outcome S x logged plan))
 

@@ -7,12 +7,13 @@ use Prim.Native.Nat.{ℕ, _≤_}
 use lib.ListN.{getD}
 use lib.Dec.{eqb}
 use borrow.Author.Tests.{eqb-false, ne-eqb, leb-true, le-leb, not-true}
+use Rattle.basic_laws.specs.Cases.{or-false}
 use Rattle.rules.specs.Lists.{any, memb}
 use Rattle.rules.specs.Types.{Store, Tx, ReadRecord}
 use Rattle.rules.specs.Store.{activeTxids}
 use Rattle.rules.specs.Transaction.{writesOf, readsOf, indexReadsOf, snapshotOf, finalWrites}
 use Rattle.rules.specs.Calls.{lockedByAnother}
-use Rattle.rules.specs.Tests.{indexReadConflict, rowLockConflict, readConflict, serializationConflict, writeBaseConflict}
+use Rattle.rules.specs.Tests.{indexReadConflict, rowLockConflict, readConflict, serializationConflict, writeBaseConflict, conflicting}
 use Rattle.statements.specs.Words.{Some, LockedByAnother, Stale}
 
 -- a test with `||`, with `&&`, of a list, of two numbers, in words
@@ -35,10 +36,10 @@ pub differ : (m n : ℕ) → (not (eqb m n) ≡ true) ↔ (m ≢ n)
 differ m n = (λ t. eqb-false m n (not-true (eqb m n) t), λ d. rw (ne-eqb m n d))
 
 -- "11 index_conflict is set or a recorded stamp differs"
-pub index-reads-say : (stamps : List ℕ) (x : Tx) → (indexReadConflict stamps x ≡ true)
-    ↔ ((x .«index_conflict» ≡ true) ⊎ Some (λ e. getD stamps (e .stripe) 0 ≢ e .stamp .0) (indexReadsOf x))
+pub index-reads-say : (S : Store) (x : Tx) → (indexReadConflict S x ≡ true)
+    ↔ ((x .«index_conflict» ≡ true) ⊎ Some (λ e. getD (S .stamps) (e .stripe) 0 ≢ e .stamp .0) (indexReadsOf x))
 unfolding indexReadConflict
-index-reads-say stamps x = either _ _ Iff·rfl (some _ _ (λ e. differ _ _) (indexReadsOf x))
+index-reads-say S x = either _ _ Iff·rfl (some _ _ (λ e. differ _ _) (indexReadsOf x))
 
 -- "12 a written row's head has a live lock of another"
 pub row-locks-say : (S : Store) (x : Tx) → (rowLockConflict S x ≡ true)
@@ -46,23 +47,30 @@ pub row-locks-say : (S : Store) (x : Tx) → (rowLockConflict S x ≡ true)
 unfolding rowLockConflict lockedByAnother
 row-locks-say S x = some _ _ (λ w. both _ _ Iff·rfl (both _ _ (differ _ _) Iff·rfl)) (writesOf x)
 
-pub read-says : (xmin xmax : List ℕ) (x : Tx) (e : ReadRecord) → (readConflict xmin xmax x e ≡ true) ↔ Stale xmin xmax x e
+pub read-says : (S : Store) (x : Tx) (e : ReadRecord) → (readConflict S x e ≡ true) ↔ Stale S x e
 unfolding readConflict
-read-says xmin xmax x e =
-    let b = getD xmax (e .ptr .0) 0 in
+read-says S x e =
+    let b = getD (S .xmax) (e .ptr .0) 0 in
     either _ _ (differ _ _)
     (both _ _ (neither (eqb b 0) (eqb b (x .txid .0)) (differ _ _) (differ _ _)) (either _ _ (leb-true _ _, le-leb _ _) Iff·rfl))
 
-pub serialization-says : (xmin xmax : List ℕ) (x : Tx) → (serializationConflict xmin xmax x ≡ true) ↔ Some (Stale xmin xmax x) (readsOf x)
+pub serialization-says : (S : Store) (x : Tx) → (serializationConflict S x ≡ true) ↔ Some (Stale S x) (readsOf x)
 unfolding serializationConflict
-serialization-says xmin xmax x = some _ _ (read-says xmin xmax x) (readsOf x)
+serialization-says S x = some _ _ (read-says S x) (readsOf x)
 
 -- so a changed xmin conflicts whatever the xmax is, 0 and the reader's own included
-pub changed-xmin-conflicts : (xmin xmax : List ℕ) (x : Tx) (e : ReadRecord) → getD xmin (e .ptr .0) 0 ≢ e .xmin .0 → readConflict xmin xmax x e ≡ true
-changed-xmin-conflicts xmin xmax x e d = read-says xmin xmax x e .1 (inl d)
+pub changed-xmin-conflicts : (S : Store) (x : Tx) (e : ReadRecord) → getD (S .xmin) (e .ptr .0) 0 ≢ e .xmin .0 → readConflict S x e ≡ true
+changed-xmin-conflicts S x e d = read-says S x e .1 (inl d)
 
 -- "14 a final write's base is not the head"
-pub write-bases-say : (heads : List ℕ) (x : Tx) → (writeBaseConflict heads x ≡ true)
-    ↔ Some (λ w. getD heads (w .row .0) 0 ≢ w .base .0) (finalWrites (writesOf x))
+pub write-bases-say : (S : Store) (x : Tx) → (writeBaseConflict S x ≡ true)
+    ↔ Some (λ w. getD (S .heads) (w .row .0) 0 ≢ w .base .0) (finalWrites (writesOf x))
 unfolding writeBaseConflict
-write-bases-say heads x = some _ _ (λ w. differ _ _) (finalWrites (writesOf x))
+write-bases-say S x = some _ _ (λ w. differ _ _) (finalWrites (writesOf x))
+
+-- where none of the four says yes, 14 says no
+pub bases-agree : (S : Store) (x : Tx) → conflicting S x ≡ false → writeBaseConflict S x ≡ false
+bases-agree S x none =
+    let a = or-false (indexReadConflict S x) _ none .1 in
+    let b = or-false (rowLockConflict S x) _ a .1 in
+    or-false (serializationConflict S x) (writeBaseConflict S x) b .1

@@ -1,31 +1,38 @@
--- Freed slots: what a slot that is not among them holds stays.
-use mathlib.Core.Path.{_≡_, refl, ap, _∙_}
+-- Freed slots: they are all zero, and what a slot that is not among them holds stays.
+use mathlib.Core.Path.{_≡_, refl, ap}
 use mathlib.Core.Bool.{false, not}
 use mathlib.Core.List.{List, [], _∷_, map}
 use Prim.Native.Nat.{ℕ}
-use lib.ListN.{getD, set}
-use lib.Seq.{getD-set-other}
-use lib.Dec.{eqb}
-use borrow.Author.Tests.{eqb-false}
+use Rattle.records.specs.Setters.{slotted}
 use Rattle.rules.specs.Types.{Store, Write}
 use Rattle.rules.specs.Lists.{memb, those}
 use Rattle.rules.specs.Store.{valueAt, sameValue}
 use Rattle.rules.specs.Puts.{putFree, apply, applyAll}
 use Rattle.rules.specs.Changes.{Change, changeOf, indexChanges}
-use Rattle.basic_laws.specs.Cases.{or-false}
+use Rattle.run_laws.specs.GuardPuts.{setAll, set-all-else}
 use Rattle.basic_laws.specs.Members.{Each}
 
--- one law for every array that a free clears at its place
-pub freed-at {ℓ} : {A : Type ℓ} (F : Store → List A) (z : A) → ((p : ℕ) (T : Store) → F (apply (putFree p) T) ≡ set (F T) p z)
-    → (l : List ℕ) (T : Store) (q : ℕ) → memb q l ≡ false → getD (F (applyAll (map putFree l) T)) q z ≡ getD (F T) q z
-freed-at F z c [] T q n = refl
-freed-at F z c (p ∷ l) T q n =
-    let o = or-false (eqb q p) (memb q l) n in
-    freed-at F z c l (apply (putFree p) T) q (o .1) ∙ rw (c p T) (getD-set-other (F T) p q z z (eqb-false q p (o .0)))
+-- the store with these slots all zero
+abbrev pub freed : List ℕ → Store → Store
+freed ps S =
+    slotted
+    (setAll (S .xmin) ps 0)
+    (setAll (S .xmax) ps 0)
+    (setAll (S .next) ps 0)
+    (setAll (S .key) ps 0)
+    (setAll (S .has) ps false)
+    (setAll (S .locked) ps false)
+    (setAll (S .owner) ps 0)
+    S
+
+-- their frees leave it
+pub freed-is : (ps : List ℕ) (S : Store) → applyAll (map putFree ps) S ≡ freed ps S
+freed-is [] S = refl
+freed-is (p ∷ ps) S = freed-is ps (apply (putFree p) S)
 
 -- a slot's value
 pub freed-value : (l : List ℕ) (T : Store) (q : ℕ) → memb q l ≡ false → let D = applyAll (map putFree l) T in valueAt (D .key) (D .has) q ≡ valueAt (T .key) (T .has) q
-freed-value l T q n = rw (freed-at (λ S. S .key) 0 (λ p S. refl) l T q n, freed-at (λ S. S .has) false (λ p S. refl) l T q n)
+freed-value l T q n = rw (freed-is l T, set-all-else 0 l (T .key) 0 q n, set-all-else false l (T .has) false q n)
 
 -- neither side of a write is among the freed slots
 abbrev pub Spared : List ℕ → Write → Type 0

@@ -113,13 +113,13 @@ module _ (S : Store) (x : Tx) (logged : Bool) (plan : Schedule) where
       ∷ at (unloggedWrites S x logged plan && S .bound) 8 (guardsTaken S x logged plan ++ leaving) (stayEnd BoundDurably)
       ∷ at (hit 10 || S .poisoned) 9 (guardsTaken S x logged plan ++ (leaving ++ dying)) (abortEnd FoundPoisoned CleanupFailed (not (hit 10)) false)
       ∷ at (hit 11) 10 (guardsTaken S x logged plan ++ leaving) (stayEnd StepFailed)
-      ∷ at (indexReadConflict (S .stamps) x) 10 (guardsTaken S x logged plan ++ (leaving ++ dying)) (abortEnd Conflict Conflict false false)
+      ∷ at (indexReadConflict S x) 10 (guardsTaken S x logged plan ++ (leaving ++ dying)) (abortEnd Conflict Conflict false false)
       ∷ at (hit 12) 11 (guardsTaken S x logged plan ++ leaving) (stayEnd StepFailed)
       ∷ at (rowLockConflict S x) 11 (guardsTaken S x logged plan ++ (leaving ++ dying)) (abortEnd Conflict Conflict false false)
       ∷ at (hit 13) 12 (guardsTaken S x logged plan ++ leaving) (stayEnd StepFailed)
-      ∷ at (serializationConflict (S .xmin) (S .xmax) x) 12 (guardsTaken S x logged plan ++ (leaving ++ dying)) (abortEnd Conflict Conflict false false)
+      ∷ at (serializationConflict S x) 12 (guardsTaken S x logged plan ++ (leaving ++ dying)) (abortEnd Conflict Conflict false false)
       ∷ at (hit 14) 13 (guardsTaken S x logged plan ++ leaving) (stayEnd StepFailed)
-      ∷ at (writeBaseConflict (S .heads) x) 13 (guardsTaken S x logged plan ++ (leaving ++ dying)) (abortEnd Conflict Conflict false false)
+      ∷ at (writeBaseConflict S x) 13 (guardsTaken S x logged plan ++ (leaving ++ dying)) (abortEnd Conflict Conflict false false)
       ∷ lateGates
 
   -- the run that passes them all

@@ -7,56 +7,59 @@ use lib.ListN.{length, getD, set, length-set}
 use lib.Seq.{getD-set-other, ext-getD}
 use lib.Dec.{eqb}
 use borrow.Author.Tests.{eqb-true, eqb-false}
-use Rattle.basic_laws.specs.Cases.{and-true, or-false, by, every-cons}
+use Rattle.records.specs.Setters.{guarded}
+use Rattle.basic_laws.specs.Cases.{and-true, or-false, by, clash, every-cons}
 use Rattle.rules.specs.Lists.{allZero, memb}
 use Rattle.rules.specs.Types.{Store, Tx}
 use Rattle.rules.specs.Admitted.{resting}
 use Rattle.rules.specs.Puts.{Put, putStripe, putPartition, apply, applyAll}
 use Rattle.rules.specs.Changes.{changes, guardedStripes, guardedPartitions, indexGuards, partitionGuards, release}
 
--- the store with other guards
-abbrev pub guarded : List ℕ → List ℕ → Store → Store
-guarded g q S = record { heads = S .heads; xmin = S .xmin; xmax = S .xmax; next = S .next; key = S .key; has = S .has; locked = S .locked; owner = S .owner; postings = S .postings; «posting_count» = S .«posting_count»; «stripe_guards» = g; «partition_guards» = q; stamps = S .stamps; active = S .active; clock = S .clock; poisoned = S .poisoned; doomed = S .doomed; bound = S .bound }
-
 -- an array with the named places set to v
-abbrev pub setAll : List ℕ → List ℕ → ℕ → List ℕ
+abbrev pub setAll : {A : Type 0} → List A → List ℕ → A → List A
 setAll g [] v = g
 setAll g (i ∷ is) v = setAll (set g i v) is v
 
-set-zero : (g : List ℕ) (i : ℕ) → getD (set g i 0) i 0 ≡ 0
-set-zero [] i = refl
-set-zero (x ∷ g) zero = refl
-set-zero (x ∷ g) (suc i) = set-zero g i
+-- a place set to the blank holds it
+pub set-blank {ℓ} : {A : Type ℓ} (g : List A) (i : ℕ) (z : A) → getD (set g i z) i z ≡ z
+set-blank [] i z = refl
+set-blank (x ∷ g) zero z = refl
+set-blank (x ∷ g) (suc i) z = set-blank g i z
+
+module _ {A : Type 0} (z : A) where
+  -- places that are not named keep what they have
+  pub set-all-else : (is : List ℕ) (g : List A) (v : A) (p : ℕ) → memb p is ≡ false → getD (setAll g is v) p z ≡ getD g p z
+  set-all-else [] g v p h = refl
+  set-all-else (i ∷ is) g v p h =
+      let o = or-false (eqb p i) (memb p is) h in
+      set-all-else is (set g i v) v p (o .1) ∙ getD-set-other g i p v z (eqb-false p i (o .0))
+
+  -- all named places set to the blank, the others blank before
+  pub set-all-blank : (is : List ℕ) (g : List A) (p : ℕ) → (memb p is ≡ false → getD g p z ≡ z) → getD (setAll g is z) p z ≡ z
+  set-all-blank [] g p h = h refl
+  set-all-blank (i ∷ is) g p h =
+      set-all-blank is (set g i z) p (λ n.
+      by (eqb p i)
+      (λ e. rw (eqb-true p i e) (set-blank g i z))
+      (λ e. getD-set-other g i p z z (eqb-false p i e) ∙ h (rw (e, n))))
+
+  pub set-all-here : (is : List ℕ) (g : List A) (p : ℕ) → memb p is ≡ true → getD (setAll g is z) p z ≡ z
+  set-all-here is g p m = set-all-blank is g p (λ n. clash m n)
+
+  -- the array is as long as before
+  pub set-all-long : (is : List ℕ) (g : List A) (v : A) → length (setAll g is v) ≡ length g
+  set-all-long [] g v = refl
+  set-all-long (i ∷ is) g v = set-all-long is (set g i v) v ∙ length-set g i v
 
 all-zero : (g : List ℕ) (p : ℕ) → allZero g ≡ true → getD g p 0 ≡ 0
 all-zero [] p h = refl
 all-zero (x ∷ g) zero h = eqb-true x 0 (and-true (eqb x 0) (allZero g) h .0)
 all-zero (x ∷ g) (suc p) h = all-zero g p (and-true (eqb x 0) (allZero g) h .1)
 
--- places that are not named keep their number
-kept : (is g : List ℕ) (v p : ℕ) → memb p is ≡ false → getD (setAll g is v) p 0 ≡ getD g p 0
-kept [] g v p h = refl
-kept (i ∷ is) g v p h =
-    let o = or-false (eqb p i) (memb p is) h in
-    kept is (set g i v) v p (o .1) ∙ getD-set-other g i p v 0 (eqb-false p i (o .0))
-
--- all named places set to 0, the others 0 before
-cleared : (is g : List ℕ) (p : ℕ) → (memb p is ≡ false → getD g p 0 ≡ 0) → getD (setAll g is 0) p 0 ≡ 0
-cleared [] g p h = h refl
-cleared (i ∷ is) g p h =
-    cleared is (set g i 0) p (λ n.
-    by (eqb p i)
-    (λ e. rw (eqb-true p i e) (set-zero g i))
-    (λ e. getD-set-other g i p 0 0 (eqb-false p i e) ∙ h (rw (e, n))))
-
-long : (is g : List ℕ) (v : ℕ) → length (setAll g is v) ≡ length g
-long [] g v = refl
-long (i ∷ is) g v = long is (set g i v) v ∙ length-set g i v
-
 set-back : (is g : List ℕ) (v : ℕ) → allZero g ≡ true → setAll (setAll g is v) is 0 ≡ g
 set-back is g v z = ext-getD 0 _ _
-    (long is (setAll g is v) 0 ∙ long is g v)
-    (λ p lt. cleared is (setAll g is v) p (λ n. kept is g v p n ∙ all-zero g p z) ∙ sym (all-zero g p z))
+    (set-all-long 0 is (setAll g is v) 0 ∙ set-all-long 0 is g v)
+    (λ p lt. set-all-blank 0 is (setAll g is v) p (λ n. set-all-else 0 is g v p n ∙ all-zero g p z) ∙ sym (all-zero g p z))
 
 stripes-put : (is : List ℕ) (v : ℕ) (S : Store)
     → applyAll (map (λ i. putStripe i v) is) S ≡ guarded (setAll (S .«stripe_guards») is v) (S .«partition_guards») S

@@ -8,6 +8,7 @@ pub mod GuardPuts
 pub mod FreedSlots
 pub mod FinalWrites
 pub mod PublishedChains
+pub mod OwnSlots
 -- how a run ends, and what each number leaves
 pub mod Outcome
 pub mod Kinds

@@ -13,7 +13,7 @@ use Rattle.rules.specs.Transaction.{noWrites, noAccesses, emptied}
 use Rattle.rules.specs.Faults.{F, B, P, X, Q}
 use Rattle.rules.specs.Numbers.{fate}
 use Rattle.rules.specs.Puts.{Put, putDrop, putPoison, putDoom}
-use Rattle.rules.specs.Tests.{indexReadConflict, rowLockConflict, serializationConflict, writeBaseConflict}
+use Rattle.rules.specs.Tests.{indexReadConflict, rowLockConflict, serializationConflict, writeBaseConflict, conflicting}
 use Rattle.rules.specs.Changes.{changes, destinations, indexGuards, partitionGuards, release, insertions, removals, publication, recycling, stamping}
 use Rattle.rules.specs.Commit.{End, ending, Step, goes, ends, stopIf, Clean, strikes, fails, count, abortOrPoison, rollback, unloggedWrites, finish, indexChangesMade, indexLockKeys, prepareCommitRecord, runPrepare, acquireIndexLocks, acquirePartitionLocks, ensureUnloggedWriteAllowed, checkNotPoisoned, prepareIndexDestinations, invokeBeforePublish, removeIndexSources, publishWriteSet, recycleNonFinalWrites, finishTransaction, publishIndexStamps, steps, run, committed, runOf}
 
@@ -65,22 +65,19 @@ module _ (S : Store) (x : Tx) (logged : Bool) (plan : Schedule) where
     faulted : Struck → Stay StepFailed
     durable : (unloggedWrites S x logged plan && S .bound) ≡ true → Stay BoundDurably
 
-  abbrev pub conflicting : Bool
-  conflicting = indexReadConflict (S .stamps) x || (rowLockConflict S x || (serializationConflict (S .xmin) (S .xmax) x || writeBaseConflict (S .heads) x))
-
   -- 5, 6, 7 and 9: the number, the number where the abort fails, whether poison was found, whether a preparation is to be cleaned up
   pub data Abort : (Fate → Refusal) → (Fate → Refusal) → Bool → Bool → Type 0 where
     unprepared : Struck → Abort PrepareFailed CleanupFailed false true
     panicked : Struck → Abort PreparePanicked PreparePanicked false true
     busy : Struck → Abort Conflict Conflict false false
-    conflict : conflicting ≡ true → Abort Conflict Conflict false false
+    conflict : conflicting S x ≡ true → Abort Conflict Conflict false false
     unhealthy : (fails S x logged plan 10 || S .poisoned) ≡ true → Abort FoundPoisoned CleanupFailed (not (fails S x logged plan 10)) false
 
   -- what holds once the tests are passed
   pub record Passed : Type 0 where
     pub allowed : (unloggedWrites S x logged plan && S .bound) ≡ false
     pub healthy : S .poisoned ≡ false
-    pub agreed : conflicting ≡ false
+    pub agreed : conflicting S x ≡ false
 
   -- the stores of the steps up to 8, 15, 17, 18, 19, 21, 22
   abbrev pub guardsTaken : List Put
@@ -190,13 +187,13 @@ module _ (S : Store) (x : Tx) (logged : Bool) (plan : Schedule) where
       follows-if _ (λ h. stop (stays refl both (durable h))) (λ free. skip (
       follows-if _ (λ h. stop (aborts refl both (unhealthy h))) (λ sound. skip (
       follows-if _ (λ h. stop (stays refl both (faulted (struck 11 F refl h)))) (λ _.
-      follows-if (indexReadConflict (S .stamps) x) (λ h. stop (aborts refl both (conflict (rw h)))) (λ t11. skip (
+      follows-if (indexReadConflict S x) (λ h. stop (aborts refl both (conflict (rw h)))) (λ t11. skip (
       follows-if _ (λ h. stop (stays refl both (faulted (struck 12 F refl h)))) (λ _.
       follows-if (rowLockConflict S x) (λ h. stop (aborts refl both (conflict (rw (t11, h))))) (λ t12. skip (
       follows-if _ (λ h. stop (stays refl both (faulted (struck 13 F refl h)))) (λ _.
-      follows-if (serializationConflict (S .xmin) (S .xmax) x) (λ h. stop (aborts refl both (conflict (rw (t11, t12, h))))) (λ t13. skip (
+      follows-if (serializationConflict S x) (λ h. stop (aborts refl both (conflict (rw (t11, t12, h))))) (λ t13. skip (
       follows-if _ (λ h. stop (stays refl both (faulted (struck 14 F refl h)))) (λ _.
-      follows-if (writeBaseConflict (S .heads) x) (λ h. stop (aborts refl both (conflict (rw (t11, t12, t13, h))))) (λ t14. skip (
+      follows-if (writeBaseConflict S x) (λ h. stop (aborts refl both (conflict (rw (t11, t12, t13, h))))) (λ t14. skip (
       from-15 (record { allowed = free; healthy = or-false (fails S x L plan 10) (S .poisoned) sound .1; agreed = rw (t11, t12, t13, t14) })))))))))))))))))))))))))))))))))))
 
   -- every run ends in one of these ways

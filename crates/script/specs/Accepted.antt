@@ -6,7 +6,8 @@ use mathlib.Core.Logic.{_↔_}
 use Prim.Native.Nat.{ℕ, _<_, _≤_}
 use native.Mathlib.Omega.{arith}
 use borrow.Author.Tests.{lt-ltb, le-leb, ne-eqb}
-use Rattle.records.specs.Limits.{keyEnd, placeLimit}
+use Rattle.records.specs.Limits.{keyEnd, placeLimit, digits64}
+use Rattle.records.specs.Relations.{places-narrow}
 use Rattle.rules.specs.Lists.{all}
 use Rattle.basic_laws.specs.Cases.{by, clash, and-true}
 use Rattle.rules.specs.Types.{Value, Absent, Key, Uncut, After}
@@ -44,14 +45,14 @@ digits-no-tab (b ∷ w) e =
 
 text-no-tab : (n : ℕ) → noTab (numberText n) ≡ true
 unfolding inDecimal
-text-no-tab n = digits-no-tab (decimal 20 n []) (number-digits n)
+text-no-tab n = digits-no-tab (decimal digits64 n []) (number-digits n)
 
 -- a field's text reads back
 number-back : (n : ℕ) (f : ℕ → Line) → n < keyEnd → number (numberText n) f ≡ f n
 number-back n f h = rw (text-is n h, text-value n h)
 
 place-back : (i : ℕ) (f : ℕ → Line) → i < placeLimit → place (numberText i) f ≡ f i
-place-back i f h = let k : i < keyEnd = omega arith in rw (text-is i k, text-value i k, lt-ltb i placeLimit h)
+place-back i f h = let k : i < keyEnd = omega (arith, places-narrow) in rw (text-is i k, text-value i k, lt-ltb i placeLimit h)
 
 value-back : (v : Value) (f : Value → Line) → Key32 v → value (valueText v) f ≡ f v
 value-back Absent f h = refl

@@ -7,7 +7,8 @@ use native.Mathlib.Omega.{arith}
 use lib.Dec.{eqb, ltb}
 use lib.ListN.{length, getD}
 use borrow.Author.Tests.{ltb-true, ltb-false, le-leb, lt-ltb, ne-eqb, not-true, eqb-false}
-use Rattle.records.specs.Limits.{keyEnd}
+use Rattle.records.specs.Limits.{keyEnd, digits64}
+use Rattle.records.specs.Relations.{wide-written}
 use Rattle.rules.specs.Lists.{all}
 use Rattle.basic_laws.specs.Cases.{by, clash, and-true}
 use Rattle.rules.specs.Script.{Bytes, isDigit, valueOf, isNumber, decimal}
@@ -105,12 +106,12 @@ one-by f (b ∷ c ∷ w) h k e =
     ∙ ap (λ x. x ∷ c ∷ w) s
 
 -- a number of 32 bits is written as a number, and reads back
-pub number-reads : (n : ℕ) → n < keyEnd → (isNumber (decimal 20 n []) ≡ true) × (valueOf 0 (decimal 20 n []) ≡ n)
-number-reads n k = reads-by 20 n (omega arith) (omega arith) k
+pub number-reads : (n : ℕ) → n < keyEnd → (isNumber (decimal digits64 n []) ≡ true) × (valueOf 0 (decimal digits64 n []) ≡ n)
+number-reads n k = reads-by digits64 n (omega arith) (omega (arith, wide-written)) k
 
 -- a text that is a number is the only text of its number
-pub number-only : (w : Bytes) → isNumber w ≡ true → decimal 20 (valueOf 0 w) [] ≡ w
-number-only w e = one-by 20 w (omega arith) (omega arith) e
+pub number-only : (w : Bytes) → isNumber w ≡ true → decimal digits64 (valueOf 0 w) [] ≡ w
+number-only w e = one-by digits64 w (omega arith) (omega (arith, wide-written)) e
 
 -- it has 32 bits, and digits alone
 pub number-small : (w : Bytes) → isNumber w ≡ true → valueOf 0 w < keyEnd
@@ -118,5 +119,5 @@ number-small [] e = clash {b = false} e refl
 number-small (b ∷ []) e = let d = digit b e in omega arith
 number-small (b ∷ c ∷ w) e = ltb-true _ _ (and-true (all isDigit (b ∷ c ∷ w) && not (eqb b 48)) (ltb (valueOf 0 (b ∷ c ∷ w)) keyEnd) e .1)
 
-pub number-digits : (n : ℕ) → all isDigit (decimal 20 n []) ≡ true
-number-digits n = all-digits 20 n [] refl
+pub number-digits : (n : ℕ) → all isDigit (decimal digits64 n []) ≡ true
+number-digits n = all-digits digits64 n [] refl

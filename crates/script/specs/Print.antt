@@ -1,19 +1,20 @@
 -- What an answer line's bytes are.
 use mathlib.Core.Path.{_≡_}
 use mathlib.Core.List.{[], _∷_}
-use Prim.Native.Nat.{ℕ, _≤_}
+use Prim.Native.Nat.{ℕ, _+_, _≤_}
 use lib.ListN.{length, drop}
+use Rattle.records.specs.Limits.{digits64}
 use Rattle.rules.specs.Replay.{num, dash, says}
 use Rattle.rules.specs.Replay as replay
 use Rattle.rules.specs.Script.{Bytes, decimal, write}
 use Rattle.script.specs.declared.print.Third.{Third}
 use Rattle.script.specs.declared.print.Third.the-variants.{Num, Dash}
 
--- "20 digits hold every 64-bit number"
+-- what a 64-bit number takes
 abbrev pub digits : ℕ
-digits = 20
+digits = digits64
 
--- a number's digits, before what follows; shut, since a goal would show all twenty steps
+-- a number's digits, before what follows; shut, since a goal would show every step
 unfoldable pub inDecimal : ℕ → Bytes → Bytes
 inDecimal n rest = decimal digits n rest
 
@@ -24,7 +25,7 @@ thirdText dash rest = 45 ∷ rest
 
 -- the bytes of a `Text`: three numbers, two tabs and a line feed
 abbrev pub room : ℕ
-room = 63
+room = digits + 1 + (digits + 1) + (digits + 1)
 
 -- what the declared third field means
 abbrev pub thirdOf : Third → replay.Third

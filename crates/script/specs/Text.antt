@@ -1,8 +1,8 @@
 -- The text of a line: its fields between tabs, and which numbers may stand in it.
 use mathlib.Core.Bool.{Bool, true, false}
 use mathlib.Core.List.{List, [], _∷_, _++_}
-use Prim.Native.Nat.{ℕ, _<_, _≤_}
-use Rattle.records.specs.Limits.{keyEnd, placeLimit}
+use Prim.Native.Nat.{ℕ, _+_, _<_, _≤_}
+use Rattle.records.specs.Limits.{keyEnd, placeLimit, placeDigits, digits32}
 use Rattle.rules.specs.Types.{Value, Absent, Key, Cut, Uncut, After}
 use Rattle.rules.specs.Replay.{Line, lineB, lineR, lineW, lineL, lineK, lineA, lineC, lineF, lineV, lineBad}
 use Rattle.rules.specs.Script.{Bytes}
@@ -46,6 +46,10 @@ tabbed (w ∷ v ∷ ws) = w ++ 9 ∷ tabbed (v ∷ ws)
 
 abbrev pub textOf : Line → Bytes
 textOf l = tabbed (fieldsOf l)
+
+-- "W place row key" is the longest form: a letter, and three fields, each after a tab
+abbrev pub longest : ℕ
+longest = 1 + (1 + placeDigits) + (1 + digits32) + (1 + digits32)
 
 -- "at most 32 bits"
 abbrev pub Key32 : Value → Type 0

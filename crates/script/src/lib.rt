@@ -11,6 +11,7 @@ ghost use Rattle.script.specs.LineMeaning.{meaning};
 use records::Cut;
 use records::Fault;
 use records::RowId;
+use records::Tx;
 use records::Value;
 
 // A line of the script: a place is 0 to 15, any other number has 32 bits. `Bad`: "A line that isn't one of these forms is answered 2".
@@ -29,7 +30,13 @@ pub enum Line {
 
 impl Line {
     // "place 0 to 15"
-    pub const PLACES: usize = 16;
+    pub const PLACES: usize = Tx::PLACES;
+
+    // what a 32-bit number takes
+    pub const DIGITS: usize = 10;
+
+    // "W place row key" is the longest form: a letter, and three fields, each after a tab
+    pub const LONGEST: usize = 1 + (1 + Tx::PLACE_DIGITS) + 2 * (1 + Line::DIGITS);
 }
 
 // The letter, and the fields between tabs after it.

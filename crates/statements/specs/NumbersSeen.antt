@@ -119,17 +119,17 @@ module _ (S : Store) (x : Tx) (logged : Bool) (plan : Schedule) where
       ∷ unaborted 19 CleanupFailed (failed 10 || S .poisoned)
       ∷ aborts 9 FoundPoisoned (failed 10 || S .poisoned)
       ∷ stays 4 StepFailed (failed 11)
-      ∷ unaborted 7 Conflict (indexReadConflict (S .stamps) x)
-      ∷ aborts 7 Conflict (indexReadConflict (S .stamps) x)
+      ∷ unaborted 7 Conflict (indexReadConflict S x)
+      ∷ aborts 7 Conflict (indexReadConflict S x)
       ∷ stays 4 StepFailed (failed 12)
       ∷ unaborted 7 Conflict (rowLockConflict S x)
       ∷ aborts 7 Conflict (rowLockConflict S x)
       ∷ stays 4 StepFailed (failed 13)
-      ∷ unaborted 7 Conflict (serializationConflict (S .xmin) (S .xmax) x)
-      ∷ aborts 7 Conflict (serializationConflict (S .xmin) (S .xmax) x)
+      ∷ unaborted 7 Conflict (serializationConflict S x)
+      ∷ aborts 7 Conflict (serializationConflict S x)
       ∷ stays 4 StepFailed (failed 14)
-      ∷ unaborted 7 Conflict (writeBaseConflict (S .heads) x)
-      ∷ aborts 7 Conflict (writeBaseConflict (S .heads) x)
+      ∷ unaborted 7 Conflict (writeBaseConflict S x)
+      ∷ aborts 7 Conflict (writeBaseConflict S x)
       ∷ rows15
 
   -- 0: "committed: lists emptied, txid kept"

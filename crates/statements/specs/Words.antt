@@ -52,10 +52,10 @@ LockedByAnother S t p =
     × ((getD (S .owner) p 0 ≢ t) × (memb (getD (S .owner) p 0) (activeTxids (S .active)) ≡ true))
 
 -- "13 per read, in order: changed xmin conflicts first; xmax 0 or own is none; xmax at or above snapshot_xmax, or in the snapshot, conflicts"
-abbrev pub Stale : List ℕ → List ℕ → Tx → ReadRecord → Type 0
-Stale xmin xmax x e =
-    let b = getD xmax (e .ptr .0) 0 in
-    (getD xmin (e .ptr .0) 0 ≢ e .xmin .0)
+abbrev pub Stale : Store → Tx → ReadRecord → Type 0
+Stale S x e =
+    let b = getD (S .xmax) (e .ptr .0) 0 in
+    (getD (S .xmin) (e .ptr .0) 0 ≢ e .xmin .0)
     ⊎ (((b ≢ 0) × (b ≢ x .txid .0)) × ((x .«snapshot_xmax» .0 ≤ b) ⊎ (memb b (snapshotOf x) ≡ true)))
 
 -- one of the four says yes: "index_conflict is set or a recorded stamp differs"; "a written row's head has a live lock of another"; a stale read;
@@ -64,7 +64,7 @@ abbrev pub Conflicts : Store → Tx → Type 0
 Conflicts S x =
     ((x .«index_conflict» ≡ true) ⊎ Some (λ e. getD (S .stamps) (e .stripe) 0 ≢ e .stamp .0) (indexReadsOf x))
     ⊎ (Some (λ w. LockedByAnother S (x .txid .0) (getD (S .heads) (w .row .0) 0)) (writesOf x)
-    ⊎ (Some (Stale (S .xmin) (S .xmax) x) (readsOf x)
+    ⊎ (Some (Stale S x) (readsOf x)
     ⊎ Some (λ w. getD (S .heads) (w .row .0) 0 ≢ w .base .0) (finalWrites (writesOf x))))
 
 -- WHAT ROWS HOLD AND SHOW

@@ -1,3 +1,4 @@
+pub mod GateTable
 pub mod Stops
 pub mod RecordAndEvents
 pub mod Ends

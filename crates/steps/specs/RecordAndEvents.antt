@@ -11,6 +11,8 @@ use Rattle.rules.specs.Numbers.{isDone}
 use Rattle.rules.specs.Transaction.{finals}
 use Rattle.rules.specs.Commit.{End}
 use Rattle.rules.specs.Answer.{eventsOf, noRecord, recordOf}
+use Rattle.commit_tests.specs.declared.finals.Finals.{Finals}
+use Rattle.commit_tests.specs.FinalTurns.{finalsLaid}
 use Rattle.steps.specs.declared.ends.Ending.{Ending}
 
 -- the end of a run: how it ends, and the transaction left
@@ -20,6 +22,14 @@ endWith a y = record { refusal = a .refusal; tx = y; poisoned = a .poisoned; cle
 -- the record of a commit that is done, and else none
 unfoldable pub recordIf : Bool → Tx → Record
 recordIf done x = cond done (record { txid = x .txid; writes = pad writeLimit noWrite (finals x); count = length (finals x) }) noRecord
+
+-- the same from final writes that are laid out
+unfoldable pub recordWith : Bool → Tx → Finals → Record
+recordWith done x f = cond done (record { txid = x .txid; writes = f .at; count = f .count }) noRecord
+
+pub record-with : (done : Bool) (x : Tx) {f : Finals} → f ≡ finalsLaid x → recordWith done x f ≡ recordIf done x
+unfolding recordWith recordIf finalsLaid
+record-with done x e = rw e
 
 pub record-if : (why : Refusal) (x : Tx) → recordOf why x ≡ recordIf (isDone why) x
 unfolding recordOf recordIf

@@ -16,9 +16,10 @@ use Rattle.run_laws.specs.Gates.{gates, clean}
 use Rattle.commit_tests.specs.declared.faults.Letters.{Letters}
 use Rattle.steps.specs.declared.ends.Ending.{Ending}
 use Rattle.commit_tests.specs.Striking.{letters, letterAt, letters-say}
-use Rattle.steps.specs.Stops.{cleanGate, letterIn, gateOf, run-at}
+use Rattle.steps.specs.GateTable.{cleanGate, numberAt, passedAt, leftAt}
+use Rattle.steps.specs.Stops.{letterIn, gateOf, run-at}
 use Rattle.steps.specs.RecordAndEvents.{endWith, recordIf, record-if, eventsBy, events-by}
-use Rattle.steps.specs.Ends.{gateNumbers, gatePassed, gateLeft, endingFor, txFor, endAt, run-end, run-passed, done-at}
+use Rattle.steps.specs.Ends.{endingFor, txFor, endAt, run-end, run-passed, done-at}
 
 module _ (S : Store) (x : Tx) (logged : Bool) (plan : Schedule) where
   -- the stores of a run are those of its gate
@@ -30,28 +31,28 @@ module _ (S : Store) (x : Tx) (logged : Bool) (plan : Schedule) where
       ∙ sym (List·getD-map (λ (r : Run). r .puts) (map (λ g. g .then) (gates S x logged plan) ++ clean S x logged plan ∷ []) (gateOf S x logged plan) (clean S x logged plan))
 
   -- g, l, a and y as `first_gate`, `letters_of`, `ending_at` and `tx_left` find them
-  module _ (g : ℕ) (at : g ≡ gateOf S x logged plan) (l : Letters) (is : l ≡ letters plan) (a : Ending) (so : a ≡ endingFor (letterIn l) (getD gateNumbers g 0)) where
+  module _ (g : ℕ) (at : g ≡ gateOf S x logged plan) (l : Letters) (is : l ≡ letters plan) (a : Ending) (so : a ≡ endingFor (letterIn l) (numberAt g)) where
     -- the end that the gate gives, from the table of letters
-    tabled : (y : Tx) → y ≡ txFor (letterIn l) x (getD gateLeft g 4) → endAt (letterAt (faultsOf plan)) x g ≡ endWith a y
+    tabled : (y : Tx) → y ≡ txFor (letterIn l) x (leftAt g) → endAt (letterAt (faultsOf plan)) x g ≡ endWith a y
     unfolding endAt
     tabled y left = rw (so, left, letters-say plan l is)
 
-    pub run-ends : (y : Tx) → y ≡ txFor (letterIn l) x (getD gateLeft g 4) → runOf S x logged plan .end ≡ endWith a y
+    pub run-ends : (y : Tx) → y ≡ txFor (letterIn l) x (leftAt g) → runOf S x logged plan .end ≡ endWith a y
     run-ends y left = run-end S x logged plan ∙ rw (← at) (tabled y left)
 
     -- and the answer to a commit that is not cut
-    pub answered : (y : Tx) → y ≡ txFor (letterIn l) x (getD gateLeft g 4)
+    pub answered : (y : Tx) → y ≡ txFor (letterIn l) x (leftAt g)
         → uncut S x logged (runOf S x logged plan) ≡ record {
           refusal = a .refusal;
           «record» = recordIf (leb cleanGate g) x;
           store = applyAll (runOf S x logged plan .puts) S;
           tx = y;
-          events = eventsBy logged (S .bound) (ltb 0 (length (finals x))) (getD gatePassed g 23) a;
+          events = eventsBy logged (S .bound) (ltb 0 (length (finals x))) (passedAt g) a;
           stores = length (runOf S x logged plan .puts);
         }
     unfolding uncut
     answered y left =
         let end = run-ends y left in
-        let passed : runOf S x logged plan .passed ≡ getD gatePassed g 23 = run-passed S x logged plan ∙ ap (λ (n : ℕ). getD gatePassed n 23) (sym at) in
+        let passed : runOf S x logged plan .passed ≡ passedAt g = run-passed S x logged plan ∙ ap passedAt (sym at) in
         let done : isDone (a .refusal) ≡ leb cleanGate g = ap (λ (e : End). isDone (e .refusal)) (sym (tabled y left)) ∙ done-at (letterAt (faultsOf plan)) x g in
-        rw (end, passed, record-if (a .refusal) x, done, events-by logged (S .bound) (ltb 0 (length (finals x))) (getD gatePassed g 23) a y)
+        rw (end, passed, record-if (a .refusal) x, done, events-by logged (S .bound) (ltb 0 (length (finals x))) (passedAt g) a y)

@@ -8,17 +8,17 @@ use native.Mathlib.Omega.{arith}
 use lib.ListN.{length, getD}
 use lib.Dec.{eqb, ltb}
 use Rattle.basic_laws.specs.Cases.{by}
-use Rattle.rules.specs.Types.{Store, Tx, Schedule}
+use Rattle.rules.specs.Types.{Store, Tx, Write, Schedule}
+use Rattle.rules.specs.Lists.{any}
 use Rattle.rules.specs.Transaction.{finals}
 use Rattle.rules.specs.Faults.{F, B, P, X, Q, faultsOf}
 use Rattle.rules.specs.Tests.{indexReadConflict, rowLockConflict, serializationConflict, writeBaseConflict}
 use Rattle.rules.specs.Commit.{strikes, Run, runOf}
 use Rattle.run_laws.specs.Gates.{Gate, first, gates, clean, run-gates}
-use Rattle.records.specs.Limits.{rows, places, stripes, activeLimit}
 use Rattle.commit_tests.specs.declared.faults.Letters.{Letters}
-use Rattle.fields.specs.Lent.{atRows, atPlaces, flagsAtPlaces, atActive, atStripes, array-same}
-use Rattle.commit_tests.specs.Conflicts.{rowLockConflictOf, row-lock-of}
 use Rattle.commit_tests.specs.Striking.{letters, letterAt, letters-say}
+use Rattle.commit_tests.specs.Conflicts.{baseMoved, write-base-of}
+use Rattle.steps.specs.GateTable.{changesFailed, indexGuardsFailed, indexReadsFailed, insertFailed, cleanGate}
 
 -- the place of the first test that holds; the number of tests if none does
 abbrev pub firstTrue : List Bool → ℕ
@@ -29,10 +29,6 @@ firstTrue (b ∷ bs) = cond b 0 (suc (firstTrue bs))
 pub first-at : (gs : List Gate) (r : Run) → first gs r ≡ getD (map (λ g. g .then) gs ++ r ∷ []) (firstTrue (map (λ g. g .when) gs)) r
 first-at [] r = refl
 first-at (g ∷ gs) r = by (g .when) (λ e. rw e) (λ e. rw e (first-at gs r))
-
--- the number of the gate after the last: the run that passes them all
-abbrev pub cleanGate : ℕ
-cleanGate = 27
 
 -- the gates from number n on: the number of the first whose test holds, `cleanGate` if none does
 unfoldable pub gateFrom : ℕ → List Bool → ℕ
@@ -111,36 +107,32 @@ module _ (letter : ℕ → ℕ) where
 
 -- they are the tests of commit's gates
 pub gate-tests : (S : Store) (x : Tx) (logged : Bool) (plan : Schedule)
-    → map (λ g. g .when) (gates S x logged plan) ≡ gateTests (letterAt (faultsOf plan)) logged (ltb 0 (length (finals x))) (S .bound) (S .poisoned) (indexReadConflict (S .stamps) x) (rowLockConflict S x) (serializationConflict (S .xmin) (S .xmax) x) (writeBaseConflict (S .heads) x)
+    → map (λ g. g .when) (gates S x logged plan) ≡ gateTests (letterAt (faultsOf plan)) logged (ltb 0 (length (finals x))) (S .bound) (S .poisoned) (indexReadConflict S x) (rowLockConflict S x) (serializationConflict S x) (writeBaseConflict S x)
 unfolding gates strikes gateTests openingTests guardingTests conflictTests closingTests letterAt
 gate-tests S x logged plan = refl
 
--- the numbers that the four parts find from a schedule's table of letters: the first that is a gate is the place of the first test that holds
-module _ (plan : Schedule) (l : Letters) (is : l ≡ letters plan) (logged writing bound poisoned t11 t12 t13 t14 : Bool) where
-  all-tests : (r : ℕ) → r ≡ gateFrom 0 (gateTests (letterIn l) logged writing bound poisoned t11 t12 t13 t14) → r ≡ firstTrue (gateTests (letterAt (faultsOf plan)) logged writing bound poisoned t11 t12 t13 t14)
+-- the numbers that the four parts find from the letters: the first that is a gate is the place of the first test that holds
+module _ (letter : ℕ → ℕ) (logged writing bound poisoned t11 t12 t13 t14 : Bool) where
+  all-tests : (r : ℕ) → r ≡ gateFrom changesFailed (gateTests letter logged writing bound poisoned t11 t12 t13 t14) → r ≡ firstTrue (gateTests letter logged writing bound poisoned t11 t12 t13 t14)
   unfolding gateTests openingTests guardingTests conflictTests closingTests
-  all-tests r e =
-      e
-      ∙ ap (λ (f : ℕ → ℕ). gateFrom 0 (gateTests f logged writing bound poisoned t11 t12 t13 t14)) (letters-say plan l is)
-      ∙ gate-first 0 (gateTests (letterAt (faultsOf plan)) logged writing bound poisoned t11 t12 t13 t14) refl
-      ∙ zero-add _
+  all-tests r e = e ∙ gate-first 0 (gateTests letter logged writing bound poisoned t11 t12 t13 t14) refl ∙ zero-add _
 
-  module _ (a : ℕ) (opens : a ≡ gateFrom 0 (openingTests (letterIn l) logged)) where
-    pub first-opening : a < cleanGate → a ≡ firstTrue (gateTests (letterAt (faultsOf plan)) logged writing bound poisoned t11 t12 t13 t14)
+  module _ (a : ℕ) (opens : a ≡ gateFrom changesFailed (openingTests letter logged)) where
+    pub first-opening : a < cleanGate → a ≡ firstTrue (gateTests letter logged writing bound poisoned t11 t12 t13 t14)
     unfolding gateTests
     first-opening h = all-tests a (gate-stops _ _ _ _ opens h)
 
-    module _ (passed : cleanGate ≤ a) (b : ℕ) (guards : b ≡ gateFrom 5 (guardingTests (letterIn l) logged writing bound poisoned)) where
-      pub first-guarding : b < cleanGate → b ≡ firstTrue (gateTests (letterAt (faultsOf plan)) logged writing bound poisoned t11 t12 t13 t14)
+    module _ (passed : cleanGate ≤ a) (b : ℕ) (guards : b ≡ gateFrom indexGuardsFailed (guardingTests letter logged writing bound poisoned)) where
+      pub first-guarding : b < cleanGate → b ≡ firstTrue (gateTests letter logged writing bound poisoned t11 t12 t13 t14)
       unfolding gateTests openingTests
       first-guarding h = all-tests b (gate-goes _ _ _ _ _ opens passed (omega arith) (gate-stops _ _ _ _ guards h))
 
-      module _ (guarded : cleanGate ≤ b) (d : ℕ) (tests : d ≡ gateFrom 12 (conflictTests (letterIn l) t11 t12 t13 t14)) where
-        pub first-conflict : d < cleanGate → d ≡ firstTrue (gateTests (letterAt (faultsOf plan)) logged writing bound poisoned t11 t12 t13 t14)
+      module _ (guarded : cleanGate ≤ b) (d : ℕ) (tests : d ≡ gateFrom indexReadsFailed (conflictTests letter t11 t12 t13 t14)) where
+        pub first-conflict : d < cleanGate → d ≡ firstTrue (gateTests letter logged writing bound poisoned t11 t12 t13 t14)
         unfolding gateTests openingTests guardingTests
         first-conflict h = all-tests d (gate-goes _ _ _ _ _ opens passed (omega arith) (gate-goes _ _ _ _ _ guards guarded (omega arith) (gate-stops _ _ _ _ tests h)))
 
-        pub first-closing : cleanGate ≤ d → (e : ℕ) → e ≡ gateFrom 20 (closingTests (letterIn l) logged) → e ≡ firstTrue (gateTests (letterAt (faultsOf plan)) logged writing bound poisoned t11 t12 t13 t14)
+        pub first-closing : cleanGate ≤ d → (e : ℕ) → e ≡ gateFrom insertFailed (closingTests letter logged) → e ≡ firstTrue (gateTests letter logged writing bound poisoned t11 t12 t13 t14)
         unfolding gateTests openingTests guardingTests conflictTests
         first-closing h e closes = all-tests e (gate-goes _ _ _ _ _ opens passed (omega arith) (gate-goes _ _ _ _ _ guards guarded (omega arith) (gate-goes _ _ _ _ _ tests h (omega arith) closes)))
 
@@ -154,19 +146,11 @@ pub run-at : (S : Store) (x : Tx) (logged : Bool) (plan : Schedule)
 unfolding gateOf
 run-at S x logged plan = run-gates S x logged plan ∙ first-at (gates S x logged plan) (clean S x logged plan)
 
--- a store's arrays are as long as their types say, so what `first_gate` finds is the gate
-module _ (S : Store) (x : Tx) (logged : Bool) (plan : Schedule) where
-  pub gate-of : (g : ℕ)
-      → length (S .stamps) ≡ stripes
-      → length (S .heads) ≡ rows
-      → length (S .locked) ≡ places
-      → length (S .owner) ≡ places
-      → length (S .active) ≡ activeLimit
-      → length (S .xmin) ≡ places
-      → length (S .xmax) ≡ places
-      → g ≡ firstTrue (gateTests (letterAt (faultsOf plan)) logged (ltb 0 (length (finals x))) (S .bound) (S .poisoned) (indexReadConflict (atStripes (S .stamps)) x) (rowLockConflictOf (atRows (S .heads)) (flagsAtPlaces (S .locked)) (atPlaces (S .owner)) (atActive (S .active)) x) (serializationConflict (atPlaces (S .xmin)) (atPlaces (S .xmax)) x) (writeBaseConflict (atRows (S .heads)) x))
-      → g ≡ gateOf S x logged plan
-  unfolding gateOf
-  gate-of g stamps heads locked owner active xmin xmax e =
-      e
-      ∙ rw (array-same stripes 0 (S .stamps) stamps, array-same rows 0 (S .heads) heads, array-same places false (S .locked) locked, array-same places 0 (S .owner) owner, array-same activeLimit 0 (S .active) active, array-same places 0 (S .xmin) xmin, array-same places 0 (S .xmax) xmax, gate-tests S x logged plan, row-lock-of S x)
+-- what `first_gate` finds on S, by a schedule's letters and the final writes, is the gate
+pub gate-of : (S : Store) (x : Tx) (logged : Bool) (plan : Schedule) (g : ℕ) {l : Letters} {writing : Bool} {ws : List Write}
+    → l ≡ letters plan → writing ≡ ltb 0 (length (finals x)) → ws ≡ finals x
+    → g ≡ firstTrue (gateTests (letterIn l) logged writing (S .bound) (S .poisoned)
+    (indexReadConflict S x) (rowLockConflict S x) (serializationConflict S x) (any (baseMoved (S .heads)) ws))
+    → g ≡ gateOf S x logged plan
+unfolding gateOf
+gate-of S x logged plan g {l} is some laid e = e ∙ rw (some, letters-say plan l is, write-base-of S x laid, gate-tests S x logged plan)

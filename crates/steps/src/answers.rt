@@ -1,23 +1,22 @@
 // The record and the events that commit answers.
 
 ghost use mathlib.Core.Path.{_≡_};
-ghost use Rattle.steps.specs.RecordAndEvents.{recordIf, eventsBy};
+ghost use Rattle.steps.specs.RecordAndEvents.{recordWith, eventsBy};
 use super::ends::Ending;
 use super::logic::both;
 use super::logic::either;
-use commit_tests::finals::final_writes;
+use commit_tests::finals::Finals;
 use records::Events;
 use records::Record;
 use records::Tx;
 use records::Txid;
 use records::Write;
 
-// The record is zero unless the commit is done: then it names the transaction and its final writes.
-pub fn record_of(done: bool, x: Tx) -> Record
-    ensures { λ r. ⌜ r ≡ recordIf done x ⌝ }
+// The record is zero unless the commit is done: then it names the transaction and the final writes.
+pub fn record_of(done: bool, x: Tx, finals: Finals) -> Record
+    ensures { λ r. ⌜ r ≡ recordWith done x finals ⌝ }
 {
     if done {
-        let finals = final_writes(x);
         let txid = x.txid;
         let writes = finals.at;
         Record {

@@ -2,14 +2,16 @@
 
 ghost use mathlib.Core.Path.{_≡_};
 ghost use mathlib.Core.Bool.{true, false, cond, _||_};
-ghost use lib.ListN.{getD};
 ghost use Rattle.rules.specs.Types.{Closed, Undone, PrepareFailed, PreparePanicked, Conflict, FoundPoisoned, CallbackFailed, CallbackPanicked, CleanupFailed};
 ghost use Rattle.rules.specs.Numbers.{fate};
 ghost use Rattle.rules.specs.Faults.{P, X, Q};
 ghost use Rattle.records.specs.Zero.{onlyTxid};
+ghost use Rattle.steps.specs.GateTable.{numberAt, leftAt};
 ghost use Rattle.steps.specs.Stops.{hits, letterIn};
-ghost use Rattle.steps.specs.Ends.{gateNumbers, gatePassed, gateLeft, stayEnding, abortEnding, insertEnding, callbackEnding, spoilEnding, abortFails, rollbackFails, endingFor, txFor};
-use super::gates::CLEAN;
+ghost use Rattle.steps.specs.Ends.{stayEnding, abortEnding, insertEnding, callbackEnding, spoilEnding, abortFails, rollbackFails, endingFor, txFor};
+use super::gate::Gate;
+use super::gate::left_at;
+use super::gate::number_at;
 use super::left::emptied;
 use super::left::no_accesses;
 use super::left::no_writes;
@@ -28,127 +30,6 @@ pub struct Ending {
     pub cleanup: bool,
     pub undone: bool,
     pub dropped: bool,
-}
-
-// The gates, and the clean run after them.
-const ENDS: usize = CLEAN + 1;
-
-// The number that each gate answers if cleaning up works; a callback's panic, 12, shares its gate with 11.
-const NUMBERS: [u8; ENDS] = [
-    4,
-    4,
-    5,
-    5,
-    6,
-    4,
-    7,
-    4,
-    7,
-    4,
-    8,
-    9,
-    4,
-    7,
-    4,
-    7,
-    4,
-    7,
-    4,
-    7,
-    10,
-    11,
-    13,
-    14,
-    15,
-    16,
-    17,
-    0,
-];
-
-// The steps passed before each gate.
-const PASSED: [usize; ENDS] = [
-    2,
-    3,
-    4,
-    5,
-    5,
-    6,
-    6,
-    7,
-    7,
-    8,
-    8,
-    9,
-    10,
-    10,
-    11,
-    11,
-    12,
-    12,
-    13,
-    13,
-    14,
-    15,
-    16,
-    17,
-    18,
-    20,
-    21,
-    23,
-];
-
-// What each gate leaves of the transaction: 0 all, 1 what an abort leaves, 2 no accesses, 3 no writes, 4 the lists emptied.
-const LEFT: [u8; ENDS] = [
-    0,
-    0,
-    1,
-    1,
-    1,
-    0,
-    1,
-    0,
-    1,
-    0,
-    0,
-    1,
-    0,
-    1,
-    0,
-    1,
-    0,
-    1,
-    0,
-    1,
-    0,
-    1,
-    0,
-    2,
-    3,
-    4,
-    4,
-    4,
-];
-
-fn number_at(gate: usize) -> u8
-    ensures { λ n. ⌜ n ≡ getD gateNumbers gate 0 ⌝ }
-{
-    if gate < ENDS { NUMBERS[gate] } else { 0 }
-}
-
-pub fn passed_at(gate: usize) -> usize
-    ensures { λ n. ⌜ n ≡ getD gatePassed gate 23 ⌝ }
-{
-    if gate < ENDS {
-        PASSED[gate]
-    } else {
-        PASSED[CLEAN]
-    }
-}
-
-fn left_at(gate: usize) -> u8
-    ensures { λ n. ⌜ n ≡ getD gateLeft gate 4 ⌝ }
-{
-    if gate < ENDS { LEFT[gate] } else { LEFT[CLEAN] }
 }
 
 // Numbers 0, 4 and 8.
@@ -306,7 +187,7 @@ fn spoils(why: Refusal, drops: bool) -> Ending
 
 // The refusal and the flags of a run that ends at the gate.
 pub fn ending_at(gate: usize, l: Letters) -> Ending
-    ensures { λ e. ⌜ e ≡ endingFor (letterIn l) (getD gateNumbers gate 0) ⌝ }
+    ensures { λ e. ⌜ e ≡ endingFor (letterIn l) (numberAt gate) ⌝ }
 {
     let number = number_at(gate);
     let failed = l.at[23] == b'F';
@@ -338,14 +219,14 @@ fn callback_at(l: Letters) -> Ending
 
 // What is left of the transaction.
 pub fn tx_left(gate: usize, l: Letters, x: Tx) -> Tx
-    ensures { λ y. ⌜ y ≡ txFor (letterIn l) x (getD gateLeft gate 4) ⌝ }
+    ensures { λ y. ⌜ y ≡ txFor (letterIn l) x (leftAt gate) ⌝ }
 {
     let left = left_at(gate);
     match left {
-        0 => x,
-        1 => aborted(l.at[23] == b'F', x),
-        2 => no_accesses(x),
-        3 => no_writes(x),
+        Gate::ALL => x,
+        Gate::BY_ABORT => aborted(l.at[23] == b'F', x),
+        Gate::NO_ACCESSES => no_accesses(x),
+        Gate::NO_WRITES => no_writes(x),
         _ => emptied(x),
     }
 }

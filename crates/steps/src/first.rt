@@ -1,19 +1,19 @@
 // The steps of commit in upstream's order, to the first that ends the run.
 
 ghost use mathlib.Core.Path.{_≡_};
-ghost use Rattle.rules.specs.Faults.{faultsOf};
-ghost use Rattle.rules.specs.Tests.{indexReadConflict, serializationConflict, writeBaseConflict};
-ghost use Rattle.fields.specs.Lent.{atRows, atPlaces, flagsAtPlaces, atActive, atStripes};
-ghost use Rattle.commit_tests.specs.Conflicts.{rowLockConflictOf};
-ghost use Rattle.commit_tests.specs.Striking.{letterAt};
+ghost use lib.ListN.{take};
+ghost use Rattle.rules.specs.Types.{Store};
+ghost use Rattle.rules.specs.Lists.{any};
+ghost use Rattle.rules.specs.Tests.{indexReadConflict, rowLockConflict, serializationConflict};
+ghost use Rattle.commit_tests.specs.Conflicts.{Lends, baseMoved};
+ghost use Rattle.steps.specs.GateTable.{changesFailed, indexGuardsFailed, indexReadsFailed, insertFailed};
 ghost use Rattle.steps.specs.Stops.{firstTrue, gateFrom, letterIn, openingTests, guardingTests, conflictTests, closingTests, gateTests};
+use super::gate::Gate;
 use super::gates;
-use super::gates::CLEAN;
 use commit_tests::faults::Letters;
-use commit_tests::faults::letters_of;
+use commit_tests::finals::Finals;
 use commit_tests::conflicts;
 use records::RowId;
-use records::Schedule;
 use records::SlotPtr;
 use records::Store;
 use records::Tx;
@@ -21,26 +21,26 @@ use records::Txid;
 
 // Steps 1 to 6: nothing is taken yet.
 fn opening(l: Letters, logged: bool) -> usize
-    ensures { λ g. ⌜ g ≡ gateFrom 0 (openingTests (letterIn l) logged) ⌝ }
+    ensures { λ g. ⌜ g ≡ gateFrom changesFailed (openingTests (letterIn l) logged) ⌝ }
 {
     let g = gates::ensure_open();
-    if g < CLEAN {
+    if g < Gate::CLEAN {
         return g;
     }
     let g = gates::final_write_indices();
-    if g < CLEAN {
+    if g < Gate::CLEAN {
         return g;
     }
     let g = gates::index_changes(l);
-    if g < CLEAN {
+    if g < Gate::CLEAN {
         return g;
     }
     let g = gates::index_lock_keys(l);
-    if g < CLEAN {
+    if g < Gate::CLEAN {
         return g;
     }
     let g = gates::prepare_commit_record(l, logged);
-    if g < CLEAN {
+    if g < Gate::CLEAN {
         return g;
     }
     gates::run_prepare(l, logged)
@@ -48,18 +48,18 @@ fn opening(l: Letters, logged: bool) -> usize
 
 // Steps 7 to 10: guards and health.
 fn guarding(l: Letters, logged: bool, writing: bool, bound: bool, poisoned: bool) -> usize
-    ensures { λ g. ⌜ g ≡ gateFrom 5 (guardingTests (letterIn l) logged writing bound poisoned) ⌝ }
+    ensures { λ g. ⌜ g ≡ gateFrom indexGuardsFailed (guardingTests (letterIn l) logged writing bound poisoned) ⌝ }
 {
     let g = gates::acquire_index_locks(l);
-    if g < CLEAN {
+    if g < Gate::CLEAN {
         return g;
     }
     let g = gates::acquire_partition_locks(l);
-    if g < CLEAN {
+    if g < Gate::CLEAN {
         return g;
     }
     let g = gates::ensure_unlogged_write_allowed(l, logged, writing, bound);
-    if g < CLEAN {
+    if g < Gate::CLEAN {
         return g;
     }
     gates::check_not_poisoned(l, poisoned)
@@ -76,65 +76,66 @@ fn testing<'a>(
     xmin: &'a [u64; SlotPtr::PLACES],
     xmax: &'a [u64; SlotPtr::PLACES],
     x: Tx,
+    finals: Finals,
 ) -> usize
-    ensures { λ g. ⌜ g ≡ gateFrom 12 (conflictTests (letterIn l) (indexReadConflict (atStripes (now (stamps .entry))) x) (rowLockConflictOf (atRows (now (heads .entry))) (flagsAtPlaces (now (locked .entry))) (atPlaces (now (owner .entry))) (atActive (now (active .entry))) x) (serializationConflict (atPlaces (now (xmin .entry))) (atPlaces (now (xmax .entry))) x) (writeBaseConflict (atRows (now (heads .entry))) x)) ⌝ }
+    ensures { λ g. ⌜ ((S : Store) → Lends S (now (stamps .entry)) (now (heads .entry)) (now (locked .entry)) (now (owner .entry)) (now (active .entry)) (now (xmin .entry)) (now (xmax .entry)) → g ≡ gateFrom indexReadsFailed (conflictTests (letterIn l) (indexReadConflict S x) (rowLockConflict S x) (serializationConflict S x) (any (baseMoved (S .heads)) (take (finals .count) (finals .at))))) ⌝ }
 {
     let g = gates::index_read_conflict(l, conflicts::index_read_conflict(stamps, x));
-    if g < CLEAN {
+    if g < Gate::CLEAN {
         return g;
     }
     let g = gates::has_row_lock_conflict(
         l,
         conflicts::has_row_lock_conflict(heads, locked, owner, active, x),
     );
-    if g < CLEAN {
+    if g < Gate::CLEAN {
         return g;
     }
     let g = gates::has_serialization_conflict(l, conflicts::has_serialization_conflict(xmin, xmax, x));
-    if g < CLEAN {
+    if g < Gate::CLEAN {
         return g;
     }
-    gates::has_write_base_conflict(l, conflicts::has_write_base_conflict(heads, x))
+    gates::has_write_base_conflict(l, conflicts::has_write_base_conflict(heads, finals))
 }
 
 // Steps 15 to 22: the changes.
 fn closing(l: Letters, logged: bool) -> usize
-    ensures { λ g. ⌜ g ≡ gateFrom 20 (closingTests (letterIn l) logged) ⌝ }
+    ensures { λ g. ⌜ g ≡ gateFrom insertFailed (closingTests (letterIn l) logged) ⌝ }
 {
     let g = gates::prepare_index_destinations(l);
-    if g < CLEAN {
+    if g < Gate::CLEAN {
         return g;
     }
     let g = gates::invoke_before_publish(l, logged);
-    if g < CLEAN {
+    if g < Gate::CLEAN {
         return g;
     }
     let g = gates::remove_index_sources(l);
-    if g < CLEAN {
+    if g < Gate::CLEAN {
         return g;
     }
     let g = gates::publish_write_set(l);
-    if g < CLEAN {
+    if g < Gate::CLEAN {
         return g;
     }
     let g = gates::recycle_non_final_writes(l);
-    if g < CLEAN {
+    if g < Gate::CLEAN {
         return g;
     }
     let g = gates::flush_local_recycle_caches();
-    if g < CLEAN {
+    if g < Gate::CLEAN {
         return g;
     }
     let g = gates::finish_transaction(l);
-    if g < CLEAN {
+    if g < Gate::CLEAN {
         return g;
     }
     gates::publish_index_stamps(l)
 }
 
-// The first gate whose test holds, `CLEAN` if none does.
+// The first gate whose test holds, `Gate::CLEAN` if none does.
 pub fn first_gate<'a>(
-    plan: Schedule,
+    l: Letters,
     logged: bool,
     writing: bool,
     bound: bool,
@@ -147,20 +148,31 @@ pub fn first_gate<'a>(
     xmin: &'a [u64; SlotPtr::PLACES],
     xmax: &'a [u64; SlotPtr::PLACES],
     x: Tx,
+    finals: Finals,
 ) -> usize
-    ensures { λ g. ⌜ g ≡ firstTrue (gateTests (letterAt (faultsOf plan)) logged writing bound poisoned (indexReadConflict (atStripes (now (stamps .entry))) x) (rowLockConflictOf (atRows (now (heads .entry))) (flagsAtPlaces (now (locked .entry))) (atPlaces (now (owner .entry))) (atActive (now (active .entry))) x) (serializationConflict (atPlaces (now (xmin .entry))) (atPlaces (now (xmax .entry))) x) (writeBaseConflict (atRows (now (heads .entry))) x)) ⌝ }
+    ensures { λ g. ⌜ ((S : Store) → Lends S (now (stamps .entry)) (now (heads .entry)) (now (locked .entry)) (now (owner .entry)) (now (active .entry)) (now (xmin .entry)) (now (xmax .entry)) → g ≡ firstTrue (gateTests (letterIn l) logged writing bound poisoned (indexReadConflict S x) (rowLockConflict S x) (serializationConflict S x) (any (baseMoved (S .heads)) (take (finals .count) (finals .at))))) ⌝ }
 {
-    let l = letters_of(plan);
     let g = opening(l, logged);
-    if g < CLEAN {
+    if g < Gate::CLEAN {
         return g;
     }
     let g = guarding(l, logged, writing, bound, poisoned);
-    if g < CLEAN {
+    if g < Gate::CLEAN {
         return g;
     }
-    let g = testing(l, stamps, heads, locked, owner, active, xmin, xmax, x);
-    if g < CLEAN {
+    let g = testing(
+        l,
+        stamps,
+        heads,
+        locked,
+        owner,
+        active,
+        xmin,
+        xmax,
+        x,
+        finals,
+    );
+    if g < Gate::CLEAN {
         return g;
     }
     closing(l, logged)

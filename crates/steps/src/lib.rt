@@ -3,7 +3,8 @@
 pub mod answers;
 pub mod ends;
 pub mod first;
-pub mod gates;
+pub mod gate;
+mod gates;
 mod left;
 mod logic;
 pub mod none;

@@ -3,13 +3,14 @@
 ghost use mathlib.Core.Path.{_≡_};
 ghost use mathlib.Core.List.{[], _∷_};
 ghost use Prim.Native.Nat.{_<_};
-ghost use Rattle.steps.specs.Stops.{cleanGate, gateFrom};
-use super::gates::CLEAN;
+ghost use Rattle.steps.specs.GateTable.{cleanGate};
+ghost use Rattle.steps.specs.Stops.{gateFrom};
+use super::gate::Gate;
 
 pub fn gate_if(struck: bool, gate: usize) -> usize
     ensures { λ g. ⌜ g ≡ gateFrom gate (struck ∷ []) ⌝ }
 {
-    if struck { gate } else { CLEAN }
+    if struck { gate } else { Gate::CLEAN }
 }
 
 // The gate or the one after it.

@@ -110,7 +110,7 @@ module _ (S : Store) (x : Tx) (logged : Bool) (plan : Schedule) where
       )
 
   -- publication on such a store: what is recycled and what is changed stays
-  module _ (z : Sized S) (h : resting S ≡ true) (f : fit S x ≡ true) (b : writeBaseConflict (S .heads) x ≡ false) where
+  module _ (z : Sized S) (h : resting S ≡ true) (f : fit S x ≡ true) (b : writeBaseConflict S x ≡ false) where
     recycling-changes : (T : Store) → changes (applyAll (recycling S x) T) x ≡ changes T x
     unfolding recycling
     recycling-changes T = changes-recycled S x z h f b T

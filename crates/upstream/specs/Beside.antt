@@ -4,24 +4,20 @@ use mathlib.Core.Bool.{Bool, true, false}
 use mathlib.Core.List.{List, [], _∷_}
 use Prim.Native.Nat.{ℕ}
 use lib.Dec.{eqb}
-use borrow.Author.Tests.{eqb-true}
+use Rattle.records.specs.Setters.{beside}
 use Rattle.rules.specs.Types.{Store, Tx, Schedule}
 use Rattle.rules.specs.Lists.{memb}
 use Rattle.rules.specs.Calls.{lockedByAnother}
-use Rattle.rules.specs.Puts.{Put, kStripe, kPartition, kInsert, kRemove, apply, applyAll, abortPuts}
-use Rattle.rules.specs.Tests.{rowLockConflict}
+use Rattle.rules.specs.Puts.{Put, kStripe, kPartition, kInsert, kRemove, kXmax, kHead, kFree, kDrop, kStamp, kPoison, kDoom, kEnter, kClock, kXmin, kNext, kKey, lastKind, apply, applyAll, abortPuts}
+use Rattle.rules.specs.Tests.{indexReadConflict, rowLockConflict, readConflict, serializationConflict, writeBaseConflict}
 use Rattle.rules.specs.Changes.{changes, indexGuards, release, insertions, removals, recycled, recycling, stamping}
 use Rattle.rules.specs.Commit.{strikes, count, abortOrPoison, rollback, indexChangesMade, indexLockKeys, prepareCommitRecord, runPrepare, acquireIndexLocks, acquirePartitionLocks, ensureUnloggedWriteAllowed, checkNotPoisoned, prepareIndexDestinations, invokeBeforePublish, removeIndexSources, publishWriteSet, recycleNonFinalWrites, finishTransaction, publishIndexStamps, steps}
-use Rattle.basic_laws.specs.Cases.{clash, or-true, and-true}
-use Rattle.run_laws.specs.OnlyKinds.{only}
-
--- S with these guards, postings and poison flag
-abbrev pub beside : List ℕ → List ℕ → List ℕ → ℕ → Bool → Store → Store
-beside g q ps n b S = record { heads = S .heads; xmin = S .xmin; xmax = S .xmax; next = S .next; key = S .key; has = S .has; locked = S .locked; owner = S .owner; postings = ps; «posting_count» = n; «stripe_guards» = g; «partition_guards» = q; stamps = S .stamps; active = S .active; clock = S .clock; poisoned = b; doomed = S .doomed; bound = S .bound }
+use Rattle.basic_laws.specs.Cases.{and-true}
+use Rattle.run_laws.specs.OnlyKinds.{only, is-not}
 
 -- every step of commit is the same with other guards and postings
 pub steps-beside : (g q ps : List ℕ) (n : ℕ) (S : Store) (x : Tx) (logged : Bool) (plan : Schedule) → steps (beside g q ps n (S .poisoned) S) x logged plan ≡ steps S x logged plan
-unfolding lockedByAnother abortPuts rowLockConflict changes indexGuards release insertions removals recycled recycling stamping strikes count abortOrPoison rollback indexChangesMade indexLockKeys prepareCommitRecord runPrepare acquireIndexLocks acquirePartitionLocks ensureUnloggedWriteAllowed checkNotPoisoned prepareIndexDestinations invokeBeforePublish removeIndexSources publishWriteSet recycleNonFinalWrites finishTransaction publishIndexStamps steps
+unfolding lockedByAnother abortPuts indexReadConflict rowLockConflict readConflict serializationConflict writeBaseConflict changes indexGuards release insertions removals recycled recycling stamping strikes count abortOrPoison rollback indexChangesMade indexLockKeys prepareCommitRecord runPrepare acquireIndexLocks acquirePartitionLocks ensureUnloggedWriteAllowed checkNotPoisoned prepareIndexDestinations invokeBeforePublish removeIndexSources publishWriteSet recycleNonFinalWrites finishTransaction publishIndexStamps steps
 steps-beside g q ps n S x logged plan = refl
 
 -- T is S but for guards and postings
@@ -40,15 +36,9 @@ quiet = kStripe ∷ kPartition ∷ kInsert ∷ kRemove ∷ []
 -- one such put
 quiet-put : (p : Put) (T : Store) → memb (p .kind) quiet ≡ true → Beside T (apply p T)
 quiet-put p T m =
-    or-true (eqb (p .kind) kStripe) (memb (p .kind) (kPartition ∷ kInsert ∷ kRemove ∷ [])) m
-    (λ e. rw (eqb-true (p .kind) kStripe e))
-    (λ m. or-true (eqb (p .kind) kPartition) (memb (p .kind) (kInsert ∷ kRemove ∷ [])) m
-    (λ e. rw (eqb-true (p .kind) kPartition e))
-    (λ m. or-true (eqb (p .kind) kInsert) (memb (p .kind) (kRemove ∷ [])) m
-    (λ e. rw (eqb-true (p .kind) kInsert e))
-    (λ m. or-true (eqb (p .kind) kRemove) false m
-    (λ e. rw (eqb-true (p .kind) kRemove e))
-    (λ m. clash {b = false} m refl))))
+    let no : (k : ℕ) → memb k quiet ≡ false → eqb (p .kind) k ≡ false = λ k n. is-not quiet k n p m in
+    rw (no kHead refl, no kFree refl, no kXmin refl, no kXmax refl, no kNext refl, no kKey refl, no lastKind refl)
+    (rw (no kStamp refl, no kDrop refl, no kEnter refl, no kClock refl, no kPoison refl, no kDoom refl))
 
 -- beside a store that stands beside S
 beside-trans : (S T U : Store) → Beside S T → Beside T U → Beside S U

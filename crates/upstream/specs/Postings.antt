@@ -17,7 +17,7 @@ use Rattle.rules.specs.Puts.{putInsert, putRemove, putPoison, apply, applyAll}
 use Rattle.rules.specs.Changes.{changes, destinations, sources, insertions, removals}
 use Rattle.rules.specs.Commit.{fails, rollback}
 use Rattle.basic_laws.specs.Members.{all-mem, mem-all}
-use Rattle.upstream.specs.Beside.{beside}
+use Rattle.records.specs.Setters.{beside}
 use Rattle.upstream.specs.AbortThen.{rollback-flag}
 use Rattle.basic_laws.specs.AllOf.{all-append, all-take}
 use Rattle.basic_laws.specs.Rising.{mem-into, mem-without, into-length, without-length}

@@ -6,10 +6,10 @@ use Prim.Native.Nat.{ℕ, _<_}
 use native.Mathlib.Omega.{arith}
 use lib.ListN.{length, getD}
 use lib.Dec.{eqb}
-use borrow.Author.Tests.{eqb-true, eqb-false, ltb-true, leb-true, not-true, not-false}
+use borrow.Author.Tests.{eqb-true, eqb-false, ltb-true, lt-ltb, leb-true, not-true, not-false}
 use Rattle.records.specs.Limits.{rows, slots}
 use Rattle.rules.specs.Types.{Store, Tx, Write}
-use Rattle.rules.specs.Lists.{all, any, memb, those}
+use Rattle.rules.specs.Lists.{all, any, memb}
 use Rattle.rules.specs.Store.{used, usedSlots}
 use Rattle.rules.specs.Transaction.{writesOf, finals}
 use Rattle.rules.specs.Chains.{walk, on}
@@ -19,10 +19,11 @@ use Rattle.rules.specs.Puts.{putFree, applyAll, ownSlots}
 use Rattle.rules.specs.Tests.{writeBaseConflict}
 use Rattle.rules.specs.Changes.{changes, recycled}
 use Rattle.basic_laws.specs.Cases.{by, clash, iff, and-true, or-false, mem-here, mem-there}
-use Rattle.basic_laws.specs.Members.{Each, those-those, mem-those, mem-nonzero}
+use Rattle.basic_laws.specs.Members.{Each, those-those}
 use Rattle.basic_laws.specs.Chain.{chain-head}
 use Rattle.basic_laws.specs.Chained.{Chained, walk-sound, walk-complete}
 use Rattle.run_laws.specs.FreedSlots.{Spared, freed-changes}
+use Rattle.run_laws.specs.OwnSlots.{recycled-parts}
 use Rattle.statements.specs.Sized.{Sized}
 use Rattle.basic_laws.specs.TestParts.{resting-parts, Repairable, repairable-parts, slots-parts, write-parts, Fit, fit-parts}
 use Rattle.run_laws.specs.FinalWrites.{finals-all, finals-distinct, distinct}
@@ -33,7 +34,7 @@ abbrev conflicts : List ℕ → Write → Bool
 conflicts heads w = not (eqb (getD heads (w .row .0) 0) (w .base .0))
 
 -- what is known where a commit publishes
-module _ (S : Store) (x : Tx) (z : Sized S) (h : resting S ≡ true) (k : fit S x ≡ true) (b : writeBaseConflict (S .heads) x ≡ false) where
+module _ (S : Store) (x : Tx) (z : Sized S) (h : resting S ≡ true) (k : fit S x ≡ true) (b : writeBaseConflict S x ≡ false) where
   abbrev seen : List ℕ
   seen = walk (S .heads) (S .next) .seen
 
@@ -119,27 +120,16 @@ module _ (S : Store) (x : Tx) (z : Sized S) (h : resting S ≡ true) (k : fit S 
       (usedSlots (S .xmin))
       (λ p e. ap (λ (c : Bool). eqb (getD (S .xmin) p 0) (x .txid .0) && not c) (on-same p (not-true (memb p (newPointers (finals x))) e))))
 
-  -- a recycled slot is used, off every chain and no final write's
-  recycled-is : (p : ℕ) → memb p (recycled S x) ≡ true → (used (S .xmin) p ≡ true) × (on seen p ≡ false) × (memb p (newPointers (finals x)) ≡ false)
-  unfolding recycled ownSlots
-  recycled-is p m =
-      let own = those (λ q. eqb (getD (S .xmin) q 0) (x .txid .0) && not (on seen q)) (usedSlots (S .xmin)) in
-      let a = and-true (memb p own) (not (memb p (newPointers (finals x)))) (sym (mem-those (λ q. not (memb q (newPointers (finals x)))) own p) ∙ m) in
-      let c = and-true (memb p (usedSlots (S .xmin))) (eqb (getD (S .xmin) p 0) (x .txid .0) && not (on seen p))
-      (sym (mem-those (λ q. eqb (getD (S .xmin) q 0) (x .txid .0) && not (on seen q)) (usedSlots (S .xmin)) p) ∙ a .0) in
-      let d = and-true (eqb (getD (S .xmin) p 0) (x .txid .0)) (not (on seen p)) (c .1) in
-      (sym (mem-nonzero (S .xmin) p) ∙ c .0, not-true (on seen p) (d .1), not-true (memb p (newPointers (finals x))) (a .1))
-
   -- neither side of a final write is recycled
   base-kept : (w : Write) → conflicts (S .heads) w ≡ false → w .row .0 < length (S .heads) → memb (w .base .0) (recycled S x) ≡ false
   base-kept w c lt =
       let q = w .base .0 in
       let e : getD (S .heads) (w .row .0) 0 ≡ q = eqb-true (getD (S .heads) (w .row .0) 0) q (not-false (eqb (getD (S .heads) (w .row .0) 0) q) c) in
       by (memb q (recycled S x))
-      (λ m. let r = recycled-is q m in
+      (λ m. let r = recycled-parts S x q m .0 in
       by (eqb q 0)
-      (λ n. clash (rw (eqb-true q 0 n) at (r .0)) zero-free)
-      (λ n. clash (chains .1 .marked (w .row .0) q lt (chain-head (S .next) q (chains .0 (w .row .0)) (rw e at (chains .1 .stand .chain (w .row .0) lt)) (eqb-false q 0 n))) (r .1)))
+      (λ n. clash (rw (eqb-true q 0 n) at (lt-ltb 0 (getD (S .xmin) q 0) (r .some))) zero-free)
+      (λ n. clash (chains .1 .marked (w .row .0) q lt (chain-head (S .next) q (chains .0 (w .row .0)) (rw e at (chains .1 .stand .chain (w .row .0) lt)) (eqb-false q 0 n))) (r .off)))
       (λ n. n)
 
   both-kept : (ws : List Write) → all fitting ws ≡ true → any (conflicts (S .heads)) ws ≡ false
@@ -155,4 +145,4 @@ module _ (S : Store) (x : Tx) (z : Sized S) (h : resting S ≡ true) (k : fit S 
   pub changes-recycled : (T : Store) → changes (applyAll (map putFree (recycled S x)) T) x ≡ changes T x
   unfolding changes
   changes-recycled T = freed-changes (recycled S x) T (finals x) (both-kept (finals x) finals-fit finals-based
-      (λ p m. by (memb p (recycled S x)) (λ k. clash m (recycled-is p k .2)) (λ k. k)))
+      (λ p m. by (memb p (recycled S x)) (λ k. clash m (recycled-parts S x p k .1)) (λ k. k)))

@@ -41,7 +41,7 @@ pub record Witness (w : Written) (old new : Value) (left : List ℕ) : Type 0 wh
   pub postings : postingsOf (after w) ≡ left
 
 -- past its tests, from what there is to compute
-ready-by : {S : Store} {x : Tx} → Meets S x → S .poisoned ≡ false → writeBaseConflict (S .heads) x ≡ false → Ready S x
+ready-by : {S : Store} {x : Tx} → Meets S x → S .poisoned ≡ false → writeBaseConflict S x ≡ false → Ready S x
 ready-by m h b = record { rests = m .ok .rests; healthy = h; fits = m .ok .fits; agreed = b; sized = m .sized }
 
 pub create : Witness created Absent (Key 42) (posting 42 3 ∷ [])

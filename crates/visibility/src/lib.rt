@@ -11,6 +11,7 @@ pub mod active;
 mod chain;
 pub mod found;
 mod own;
+pub mod own_slots;
 pub mod slots;
 
 use records::Tx;

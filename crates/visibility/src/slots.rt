@@ -43,7 +43,7 @@ pub fn value_at<'a>(
 }
 
 // Created by t and off every chain, by the marks of the walk: what abort frees.
-pub fn is_own<'a>(
+pub(crate) fn is_own<'a>(
     xmin: &'a [u64; SlotPtr::PLACES],
     seen: &'a [u8; SlotPtr::PLACES],
     t: Txid,

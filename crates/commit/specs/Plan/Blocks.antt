@@ -8,36 +8,39 @@ use native.Mathlib.Omega.{arith}
 use lib.ListN.{length, take}
 use lib.Seq.{take-all}
 use Rattle.records.specs.Limits.{stripes, partitions, places, writeLimit}
+use Rattle.records.specs.Relations.{slots-placed, stripes-placed, partitions-placed}
 use Rattle.rules.specs.Lists.{all, pad}
 use Rattle.rules.specs.Types.{Store, Tx, Write}
 use Rattle.rules.specs.Transaction.{finals}
 use Rattle.rules.specs.Chains.{walk}
 use Rattle.rules.specs.Fit.{fit}
-use Rattle.rules.specs.Puts.{Put, put, kStripe, kPartition, kInsert, kRemove, kFree, kStamp, kLock, putRemove, putDrop, ownSlots, abortPuts}
+use Rattle.rules.specs.Puts.{Put, put, kStripe, kPartition, kInsert, kRemove, kStamp, lastKind, putRemove}
 use Rattle.rules.specs.Changes.{changes, destinations, sources, indexGuards, partitionGuards, release, insertions, removals, publication, recycling, stamping}
 use Rattle.journal.specs.Journal.{placeBase, narrow, Pushed}
 use Rattle.journal.specs.Holds.{kept-wide}
+use Rattle.journal.specs.Pushing.{Pushes}
+use Rattle.journal.specs.AtMarks.{marked, freesAt, marked-add, frees-add}
 use Rattle.journal.specs.Adds.{Adds, adds-push, adds-then}
 use Rattle.fields.specs.Pad.{take-clip}
 use Rattle.commit.specs.declared.plan.moves.Codes.{Codes}
 use Rattle.fields.specs.Marks.{markedFrom}
-use Rattle.commit.specs.Plan.Pushes.{marked, listed, listedBack}
+use Rattle.commit.specs.Plan.Pushes.{listed, listedBack}
 use Rattle.commit.specs.Plan.Plain.{plain, finals-plain}
 use Rattle.commit.specs.Plan.Publish.{publishing, publishing-whole}
 use Rattle.commit.specs.Plan.Moves.{codesOf, changedMarks}
 use Rattle.commit.specs.Plan.Guards.{guardedMarks, partitionMarks}
-use Rattle.commit.specs.Plan.Own.{ownMarks, recycledMarks}
-use Rattle.commit.specs.Plan.Few.{Marked, own-few, changed-are, guarded-are, partitions-are, own-are, recycled-are, index-guards-few, partition-guards-few, destinations-fit, sources-fit}
+use Rattle.commit.specs.Plan.Own.{recycledMarks}
+use Rattle.commit.specs.Plan.Few.{Marked, changed-are, guarded-are, partitions-are, recycled-are, index-guards-few, partition-guards-few, destinations-fit, sources-fit}
 
 -- what `push_marked`, `push_listed` and `push_back` ensure
 abbrev pub MarksPut : List ℕ → ℕ → List ℕ → ℕ → ℕ → ℕ → ℕ → List Bool → Type 0
-MarksPut j n after r kind val limit m = length m ≤ placeBase → kind ≤ kLock → narrow kind ≡ false → Adds j n (marked kind val limit 0 m) after r
+MarksPut j n after r kind val limit m = Pushes j n (marked kind val limit 0 m) after r
 
 abbrev pub ListPut : List ℕ → ℕ → List ℕ → ℕ → ℕ → ℕ → List ℕ → Type 0
-ListPut j n after r kind limit l = kind ≤ kLock → narrow kind ≡ false → Adds j n (listed kind limit 0 l) after r
+ListPut j n after r kind limit l = kind ≤ lastKind → narrow kind ≡ false → Adds j n (listed kind limit 0 l) after r
 
 abbrev pub BackPut : List ℕ → ℕ → List ℕ → ℕ → ℕ → ℕ → ℕ → List ℕ → Type 0
-BackPut j n after r kind limit from l = kind ≤ kLock → narrow kind ≡ false → Adds j n (listedBack kind limit from l) after r
+BackPut j n after r kind limit from l = kind ≤ lastKind → narrow kind ≡ false → Adds j n (listedBack kind limit from l) after r
 
 -- the first numbers of a list laid out are those of the list
 pad-first : (k n : ℕ) (l : List ℕ) → length l ≤ n → take (min k (length l)) (pad n 0 l) ≡ take k l
@@ -56,17 +59,16 @@ take-map f (suc k) (x ∷ l) = ap (λ (t : List Put). f x ∷ t) (take-map f k l
 
 module _ {j after : List ℕ} {n r : ℕ} where
   -- the first `limit` puts of one kind and value for numbers that are marked
-  marks-put : (kind val limit : ℕ) {m k : List Bool} {l : List ℕ} {size : ℕ} → m ≡ k → Marked k l size → size ≤ placeBase → kind ≤ kLock → narrow kind ≡ false
+  marks-put : (kind val limit : ℕ) {m k : List Bool} {l : List ℕ} {size : ℕ} → m ≡ k → Marked k l size → size ≤ placeBase → kind ≤ lastKind → narrow kind ≡ false
       → MarksPut j n after r kind val limit m → Adds j n (take limit (map (λ p. put kind p val) l)) after r
-  unfolding marked
   marks-put kind val limit {m} {k} {l} e h room low wide a =
       let long : length m ≡ length k = ap length e in
       let size = h .long in
       let are : markedFrom 0 m ≡ l = ap (markedFrom 0) e ∙ h .are in
-      rw are at (a (omega arith) low wide)
+      rw are at (marked-add kind val limit m (omega arith) low wide a)
 
   -- of a list laid out, the first `limit`; and the first `made`, the last first
-  list-put : (kind limit count : ℕ) {k : Codes} (l : List ℕ) → k ≡ codesOf l → length l ≤ writeLimit → count ≡ min limit (k .count) → kind ≤ kLock → narrow kind ≡ false
+  list-put : (kind limit count : ℕ) {k : Codes} (l : List ℕ) → k ≡ codesOf l → length l ≤ writeLimit → count ≡ min limit (k .count) → kind ≤ lastKind → narrow kind ≡ false
       → ListPut j n after r kind count (k .at) → Adds j n (take limit (map (λ c. put kind 0 c) l)) after r
   unfolding listed codesOf
   list-put kind limit count l e h q low wide a =
@@ -85,25 +87,21 @@ module _ {j after : List ℕ} {n r : ℕ} where
   pub index-guards : (S : Store) (x : Tx) (t : ℕ) {m : List Bool} → m ≡ guardedMarks (changes S x) x → fit S x ≡ true
       → MarksPut j n after r kStripe t stripes m → Adds j n (indexGuards S x t) after r
   unfolding indexGuards
-  index-guards S x t e ok a = whole stripes (index-guards-few S x ok t) (marks-put kStripe t stripes e (guarded-are S x ok) (omega arith) (omega arith) refl a)
+  index-guards S x t e ok a = whole stripes (index-guards-few S x ok t) (marks-put kStripe t stripes e (guarded-are S x ok) stripes-placed (omega arith) refl a)
 
   pub partition-guards : (x : Tx) (t : ℕ) {m : List Bool} → m ≡ partitionMarks x → MarksPut j n after r kPartition t partitions m → Adds j n (partitionGuards x t) after r
   unfolding partitionGuards
-  partition-guards x t e a = whole partitions (partition-guards-few x t) (marks-put kPartition t partitions e (partitions-are x) (omega arith) (omega arith) refl a)
+  partition-guards x t e a = whole partitions (partition-guards-few x t) (marks-put kPartition t partitions e (partitions-are x) partitions-placed (omega arith) refl a)
 
   pub stamps : (S : Store) (x : Tx) (t limit : ℕ) {m : List Bool} → m ≡ changedMarks (changes S x) → t ≡ x .txid .0
       → MarksPut j n after r kStamp t limit m → Adds j n (take limit (stamping S x)) after r
   unfolding stamping
-  stamps S x t limit e f a = rw f at (marks-put kStamp t limit e (changed-are (changes S x)) (omega arith) (omega arith) refl a)
+  stamps S x t limit e f a = rw f at (marks-put kStamp t limit e (changed-are (changes S x)) stripes-placed (omega arith) refl a)
 
   pub recycles : (S : Store) (x : Tx) (limit : ℕ) {m : List Bool} → m ≡ recycledMarks (S .xmin) (walk (S .heads) (S .next) .seen) x → length (S .xmin) ≤ places
-      → MarksPut j n after r kFree 0 limit m → Adds j n (take limit (recycling S x)) after r
+      → Pushes j n (take limit (freesAt m)) after r → Adds j n (take limit (recycling S x)) after r
   unfolding recycling
-  recycles S x limit e h a = marks-put kFree 0 limit e (recycled-are S h x) (omega arith) (omega arith) refl a
-
-  pub frees : (S : Store) (t : ℕ) {m : List Bool} → m ≡ ownMarks (S .xmin) (walk (S .heads) (S .next) .seen) t → length (S .xmin) ≤ places
-      → MarksPut j n after r kFree 0 places m → Adds j n (map (λ p. put kFree p 0) (ownSlots (S .heads) (S .next) (S .xmin) t)) after r
-  frees S t e h a = whole places (own-few S h t) (marks-put kFree 0 places e (own-are S h t) (omega arith) (omega arith) refl a)
+  recycles S x limit {m} e h a = let k = recycled-are S h x in rw (ap (markedFrom 0) e ∙ k .are) at (frees-add m (ap length e ∙ k .long) limit a)
 
   pub inserts : (S : Store) (x : Tx) (limit count : ℕ) {k : Codes} → k ≡ codesOf (destinations (changes S x)) → fit S x ≡ true → count ≡ min limit (k .count)
       → ListPut j n after r kInsert count (k .at) → Adds j n (take limit (insertions S x)) after r
@@ -124,7 +122,7 @@ module _ {j after : List ℕ} {n r : ℕ} where
   publishes S x t limit e f ok a = rw (f, e, publishing-whole x limit) at (a (rw e (finals-plain S x ok)))
 
   -- one put of a number
-  pub one-put : (kind t : ℕ) → kind ≤ kLock → narrow kind ≡ false → Pushed j n (put kind 0 t) after r → Adds j n (put kind 0 t ∷ []) after r
+  pub one-put : (kind t : ℕ) → kind ≤ lastKind → narrow kind ≡ false → Pushed j n (put kind 0 t) after r → Adds j n (put kind 0 t ∷ []) after r
   one-put kind t low wide e = adds-push (kept-wide (put kind 0 t) low (omega arith) wide) e
 
 -- two blocks one after the other
@@ -132,7 +130,3 @@ module _ {j j′ after : List ℕ} {n k r : ℕ} where
   pub releases : (S : Store) (x : Tx) → Adds j n (partitionGuards x 0) j′ k → Adds j′ k (indexGuards S x 0) after r → Adds j n (release S x) after r
   unfolding release
   releases S x a b = adds-then a b
-
-  pub aborts : (S : Store) (t : ℕ) → Adds j n (map (λ p. put kFree p 0) (ownSlots (S .heads) (S .next) (S .xmin) t)) j′ k → Adds j′ k (putDrop t ∷ []) after r → Adds j n (abortPuts S t) after r
-  unfolding abortPuts
-  aborts S t a b = adds-then a b

@@ -4,11 +4,12 @@ use mathlib.Core.Bool.{Bool, true, false, not, cond, _||_}
 use mathlib.Core.List.{List, [], _∷_, map, reverse}
 use Prim.Native.Nat.{ℕ, _≤_, _<_}
 use native.Mathlib.Omega.{arith}
-use lib.ListN.{length, getD, take, length-map, length-reverse, length-take}
+use lib.ListN.{length, take, length-map, length-reverse, length-take}
 use lib.Seq.{take-all}
 use lib.Dec.{eqb}
 use borrow.Author.Tests.{eqb-false, eq-eqb, ne-eqb}
 use Rattle.records.specs.Limits.{writeLimit}
+use Rattle.records.specs.Relations.{run-puts}
 use Rattle.basic_laws.specs.Cases.{by}
 use Rattle.rules.specs.Types.{Store, Tx, Schedule}
 use Rattle.rules.specs.Fit.{fit}
@@ -18,10 +19,11 @@ use Rattle.rules.specs.Commit.{fails, count, poison, abortOrPoison, rollback}
 use Rattle.run_laws.specs.Outcome.{worse, undoing}
 use Rattle.journal.specs.Journal.{putLimit}
 use Rattle.journal.specs.Adds.{Adds, adds-then}
+use Rattle.steps.specs.GateTable.{insertFailed, callbackEnded, removeFailed, publishFailed, recycleFailed, finishFailed, stampFailed}
 use Rattle.commit.specs.declared.plan.run.Plan.{Plan}
 use Rattle.commit.specs.declared.plan.run.Struck.{Struck}
 use Rattle.commit.specs.Plan.Few.{destinations-fit}
-use Rattle.commit.specs.Plan.Parts.{aborters, poisonsOf, taken, passed, stored, poisons, undoes, drops, lets, dies, putsAt}
+use Rattle.commit.specs.Plan.Parts.{abortsAt, poisonsOf, taken, passed, stored, poisons, undoes, drops, lets, dies, putsAt}
 use Rattle.commit.specs.Plan.Planned.{struckOf, Planned, txid-is}
 
 -- what strikes a run
@@ -56,13 +58,13 @@ module _ (S : Store) (x : Tx) (logged : Bool) (plan : Schedule) {s : Struck} (h 
 
 -- the poison of a callback, and of no gate
 module _ {j after : List ℕ} {n r : ℕ} where
-  pub poisons-called : (b : Bool) (t g : ℕ) → g ≡ 21 → Adds j n (poison (not b)) after r → Adds j n (poisonsOf b t g) after r
+  pub poisons-called : (b : Bool) (t g : ℕ) → g ≡ callbackEnded → Adds j n (poison (not b)) after r → Adds j n (poisonsOf b t g) after r
   poisons-called true t g e a = rw e a
   poisons-called false t g e a = rw e a
 
-pub poisons-none : (b : Bool) (t g : ℕ) → (g ≡ 21 → ⊥) → (g ≡ 22 → ⊥) → (g ≡ 26 → ⊥) → (g ≡ 23 → ⊥) → (g ≡ 24 → ⊥) → (g ≡ 25 → ⊥) → poisonsOf b t g ≡ []
+pub poisons-none : (b : Bool) (t g : ℕ) → (g ≡ callbackEnded → ⊥) → (g ≡ removeFailed → ⊥) → (g ≡ stampFailed → ⊥) → (g ≡ publishFailed → ⊥) → (g ≡ recycleFailed → ⊥) → (g ≡ finishFailed → ⊥) → poisonsOf b t g ≡ []
 poisons-none b t g call remove stamp publish recycle finish =
-    rw (ne-eqb g 21 call, ne-eqb g 22 remove, ne-eqb g 26 stamp, ne-eqb g 23 publish, ne-eqb g 24 recycle, ne-eqb g 25 finish)
+    rw (ne-eqb g callbackEnded call, ne-eqb g removeFailed remove, ne-eqb g stampFailed stamp, ne-eqb g publishFailed publish, ne-eqb g recycleFailed recycle, ne-eqb g finishFailed finish)
 
 -- a rollback, failed after some removals or whole; an abort that fails at once, or whole
 module _ (S : Store) (x : Tx) (logged : Bool) (plan : Schedule) (already : Bool) {j after : List ℕ} {n r : ℕ} where
@@ -79,7 +81,7 @@ module _ (S : Store) (x : Tx) (logged : Bool) (plan : Schedule) (already : Bool)
         let d = destinations (changes S x) in
         let back = map putRemove (reverse (take made d)) in
         let few = destinations-fit S x ok in
-        let room : length back ≤ putLimit = omega (arith, length-map (reverse (take made d)) putRemove, length-reverse (take made d), length-take made d) in
+        let room : length back ≤ putLimit = omega (arith, length-map (reverse (take made d)) putRemove, length-reverse (take made d), length-take made d, run-puts) in
         rw (sym (rollback-is S x logged plan h) ∙ e) (rw (take-all putLimit back room) at a)
 
   pub aborted-not : fails S x logged plan 23 ≡ true → Adds j n (poison already) after r → Adds j n (abortOrPoison S x logged plan already .puts) after r
@@ -96,48 +98,48 @@ unfolding rollback
 undoing-failed S x logged plan = by (fails S x logged plan 24) (λ e. rw e) (λ e. rw e)
 
 module _ {S : Store} {x : Tx} {logged : Bool} {plan : Schedule} {p : Plan} {s : Struck} (h : Planned S x logged plan p s) (g : ℕ) {j after : List ℕ} {n r : ℕ} where
-  pub undoes-insert : g ≡ 20 → Adds j n (rollback S x logged plan false (take (s .inserted) (destinations (changes S x))) .puts) after r → Adds j n (undoes S x logged plan g) after r
+  pub undoes-insert : g ≡ insertFailed → Adds j n (rollback S x logged plan false (take (s .inserted) (destinations (changes S x))) .puts) after r → Adds j n (undoes S x logged plan g) after r
   unfolding undoes
   undoes-insert e a = rw e (rw (inserted-is S x logged plan (h .strikes)) at a)
 
-  pub undoes-call : g ≡ 21 → Adds j n (rollback S x logged plan (s .worse) (take writeLimit (destinations (changes S x))) .puts) after r → Adds j n (undoes S x logged plan g) after r
+  pub undoes-call : g ≡ callbackEnded → Adds j n (rollback S x logged plan (s .worse) (take writeLimit (destinations (changes S x))) .puts) after r → Adds j n (undoes S x logged plan g) after r
   unfolding undoes
   undoes-call e a = rw e (rw (worse-is S x logged plan (h .strikes), take-all writeLimit (destinations (changes S x)) (destinations-fit S x (h .fits))) at a)
 
-  pub drops-call : {already : Bool} → already ≡ (s .worse || s .rollback) → g ≡ 21 → Adds j n (abortOrPoison S x logged plan already .puts) after r → Adds j n (drops S x logged plan g) after r
+  pub drops-call : {already : Bool} → already ≡ (s .worse || s .rollback) → g ≡ callbackEnded → Adds j n (abortOrPoison S x logged plan already .puts) after r → Adds j n (drops S x logged plan g) after r
   unfolding drops
   drops-call q e a = rw (e, undoing-failed S x logged plan) (rw (q, worse-is S x logged plan (h .strikes), rollback-is S x logged plan (h .strikes)) at a)
 
-  pub drops-finish : 22 < g → g < 25 → s .finish ≡ false → Adds j n (putDrop (p .txid) ∷ []) after r → Adds j n (drops S x logged plan g) after r
+  pub drops-finish : removeFailed < g → g < finishFailed → s .finish ≡ false → Adds j n (putDrop (p .txid) ∷ []) after r → Adds j n (drops S x logged plan g) after r
   unfolding drops
-  drops-finish lo hi e a = rw (between g lo hi, ne-eqb g 21 (omega arith), sym (finish-is S x logged plan (h .strikes)) ∙ e) (rw (txid-is h) at a)
+  drops-finish lo hi e a = rw (between g lo hi, ne-eqb g callbackEnded (omega arith), sym (finish-is S x logged plan (h .strikes)) ∙ e) (rw (txid-is h) at a)
     where
-      between : (g : ℕ) → 22 < g → g < 25 → (eqb g 23 || eqb g 24) ≡ true
-      between g lo hi = by (eqb g 23) (λ e. rw e) (λ e. rw (e, eq-eqb g 24 (omega (arith, eqb-false g 23 e))))
+      between : (g : ℕ) → removeFailed < g → g < finishFailed → (eqb g publishFailed || eqb g recycleFailed) ≡ true
+      between g lo hi = by (eqb g publishFailed) (λ e. rw e) (λ e. rw (e, eq-eqb g recycleFailed (omega (arith, eqb-false g publishFailed e))))
 
-  pub dies-here : getD aborters g false ≡ true → Adds j n (abortOrPoison S x logged plan (s .poisoned) .puts) after r → Adds j n (dies S x logged plan g) after r
+  pub dies-here : abortsAt g ≡ true → Adds j n (abortOrPoison S x logged plan (s .poisoned) .puts) after r → Adds j n (dies S x logged plan g) after r
   unfolding dies
   dies-here e a = rw e (rw (poisoned-is S x logged plan (h .strikes)) at a)
 
 module _ {S : Store} {x : Tx} {logged : Bool} {plan : Schedule} {p : Plan} {s : Struck} (h : Planned S x logged plan p s) (g : ℕ) where
-  pub drops-failed : 22 < g → g < 25 → s .finish ≡ true → drops S x logged plan g ≡ []
+  pub drops-failed : removeFailed < g → g < finishFailed → s .finish ≡ true → drops S x logged plan g ≡ []
   unfolding drops
-  drops-failed lo hi e = rw (ne-eqb g 21 (omega arith), sym (finish-is S x logged plan (h .strikes)) ∙ e) (same (eqb g 23 || eqb g 24))
+  drops-failed lo hi e = rw (ne-eqb g callbackEnded (omega arith), sym (finish-is S x logged plan (h .strikes)) ∙ e) (same (eqb g publishFailed || eqb g recycleFailed))
     where
       same : (b : Bool) → _≡_ {A = List Put} (cond b [] []) []
       same true = refl
       same false = refl
 
 module _ (S : Store) (x : Tx) (logged : Bool) (plan : Schedule) (g : ℕ) where
-  pub undoes-none : (g ≡ 20 → ⊥) → (g ≡ 21 → ⊥) → undoes S x logged plan g ≡ []
+  pub undoes-none : (g ≡ insertFailed → ⊥) → (g ≡ callbackEnded → ⊥) → undoes S x logged plan g ≡ []
   unfolding undoes
-  undoes-none a b = rw (ne-eqb g 20 a, ne-eqb g 21 b)
+  undoes-none a b = rw (ne-eqb g insertFailed a, ne-eqb g callbackEnded b)
 
-  pub drops-none : (g ≡ 21 → ⊥) → (g ≡ 23 → ⊥) → (g ≡ 24 → ⊥) → drops S x logged plan g ≡ []
+  pub drops-none : (g ≡ callbackEnded → ⊥) → (g ≡ publishFailed → ⊥) → (g ≡ recycleFailed → ⊥) → drops S x logged plan g ≡ []
   unfolding drops
-  drops-none a b c = rw (ne-eqb g 21 a, ne-eqb g 23 b, ne-eqb g 24 c)
+  drops-none a b c = rw (ne-eqb g callbackEnded a, ne-eqb g publishFailed b, ne-eqb g recycleFailed c)
 
-  pub dies-not : getD aborters g false ≡ false → dies S x logged plan g ≡ []
+  pub dies-not : abortsAt g ≡ false → dies S x logged plan g ≡ []
   unfolding dies
   dies-not e = rw e
 

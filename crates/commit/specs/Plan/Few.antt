@@ -1,8 +1,8 @@
 -- How many puts a block has, and a run.
 use mathlib.Core.Path.{_≡_, ap}
 use mathlib.Core.Bool.{Bool, true}
-use mathlib.Core.List.{List, [], _∷_, map}
-use Prim.Native.Nat.{ℕ, suc, _+_, _≤_}
+use mathlib.Core.List.{List, [], _∷_}
+use Prim.Native.Nat.{ℕ, _+_, _≤_}
 use native.Mathlib.Omega.{arith}
 use lib.ListN.{length, length-append, length-map, length-take}
 use lib.Dec.{eqb}
@@ -14,14 +14,13 @@ use Rattle.rules.specs.Types.{Store, Tx, Write}
 use Rattle.rules.specs.Transaction.{writesOf, finals}
 use Rattle.rules.specs.Chains.{walk}
 use Rattle.rules.specs.Fit.{countsFit, fit}
-use Rattle.rules.specs.Puts.{putFree, putDrop, ownSlots, abortPuts}
 use Rattle.rules.specs.Changes.{Change, changes, destinations, sources, changedStripes, guardedStripes, guardedPartitions, indexGuards, partitionGuards, release, publishOne, insertions, removals, publication, recycled, recycling, stamping}
 use Rattle.run_laws.specs.FinalWrites.{finals-few}
 use Rattle.basic_laws.specs.TestParts.{fit-parts}
 use Rattle.fields.specs.Marks.{markedFrom, marked-few}
 use Rattle.commit.specs.Plan.Moves.{changedMarks, destinations-few, sources-few, changes-few}
 use Rattle.commit.specs.Plan.Guards.{guardedMarks, partitionMarks, fit-reads, changed-marked, guarded-marked, partitions-marked, changed-long, guarded-long, partitions-long}
-use Rattle.commit.specs.Plan.Own.{ownMarks, own-marked, own-long, recycledMarks, recycled-marked, recycled-long}
+use Rattle.commit.specs.Plan.Own.{recycledMarks, recycled-marked, recycled-long}
 
 -- n flags, which mark the numbers of l, rising
 pub record Marked (m : List Bool) (l : List ℕ) (n : ℕ) : Type 0 where
@@ -41,12 +40,9 @@ guarded-are S x ok = record { are = guarded-marked (changes S x) x (fit-reads S 
 pub partitions-are : (x : Tx) → Marked (partitionMarks x) (guardedPartitions x) partitions
 partitions-are x = record { are = partitions-marked x; long = partitions-long x }
 
-module _ (S : Store) (long : length (S .xmin) ≤ places) where
-  pub own-are : (t : ℕ) → Marked (ownMarks (S .xmin) (walk (S .heads) (S .next) .seen) t) (ownSlots (S .heads) (S .next) (S .xmin) t) places
-  own-are t = record { are = own-marked (S .heads) (S .next) (S .xmin) t long; long = own-long (S .xmin) (walk (S .heads) (S .next) .seen) t }
-
-  pub recycled-are : (x : Tx) → Marked (recycledMarks (S .xmin) (walk (S .heads) (S .next) .seen) x) (recycled S x) places
-  recycled-are x = record { are = recycled-marked S x long; long = recycled-long (S .xmin) (walk (S .heads) (S .next) .seen) x }
+pub recycled-are : (S : Store) → length (S .xmin) ≤ places → (x : Tx)
+    → Marked (recycledMarks (S .xmin) (walk (S .heads) (S .next) .seen) x) (recycled S x) places
+recycled-are S long x = record { are = recycled-marked S x long; long = recycled-long (S .xmin) (walk (S .heads) (S .next) .seen) x }
 
 pub partition-guards-few : (x : Tx) (t : ℕ) → length (partitionGuards x t) ≤ partitions
 unfolding partitionGuards
@@ -105,11 +101,3 @@ module _ (S : Store) (x : Tx) where
   pub recycling-few : length (S .xmin) ≤ places → length (recycling S x) ≤ places
   unfolding recycling
   recycling-few long = simp length-map (marked-most (recycled-are S long x))
-
-module _ (S : Store) (long : length (S .xmin) ≤ places) (t : ℕ) where
-  pub own-few : length (map putFree (ownSlots (S .heads) (S .next) (S .xmin) t)) ≤ places
-  own-few = simp length-map (marked-most (own-are S long t))
-
-  pub abort-few : length (abortPuts S t) ≤ suc places
-  unfolding abortPuts
-  abort-few = let h = own-few in omega (arith, length-append (map putFree (ownSlots (S .heads) (S .next) (S .xmin) t)) (putDrop t ∷ []))

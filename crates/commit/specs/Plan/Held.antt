@@ -7,12 +7,13 @@ use lib.ListN.{getD}
 use Rattle.rules.specs.Types.{Store, Tx, Schedule}
 use Rattle.rules.specs.Commit.{runOf}
 use Rattle.run_laws.specs.Gates.{gates, clean}
+use Rattle.steps.specs.GateTable.{cleanGate}
 use Rattle.journal.specs.Journal.{Holds}
 use Rattle.journal.specs.Adds.{Adds, adds-all}
 use Rattle.commit.specs.declared.plan.run.Plan.{Plan}
 use Rattle.commit.specs.declared.plan.run.Struck.{Struck}
 use Rattle.commit.specs.Plan.Room.{run-room}
-use Rattle.commit.specs.Plan.Parts.{cleanGate, putsAt, puts-at}
+use Rattle.commit.specs.Plan.Parts.{putsAt, puts-at}
 use Rattle.commit.specs.Plan.Planned.{Planned}
 
 -- g is the gate at which the run ends

@@ -1,106 +1,23 @@
--- A transaction's own slots as marks, and the same without those that its final writes name.
+-- A transaction's own slots as marks, without those that its final writes name: the recycled ones.
 use mathlib.Core.Path.{_≡_, refl, sym, ap, _∙_}
 use mathlib.Core.Bool.{Bool, true, false, not, _&&_, _||_}
 use mathlib.Core.List.{List, [], _∷_, map}
 use Prim.Native.Nat.{ℕ, zero, suc, _+_, _<_, _≤_}
 use native.Mathlib.Nat.{add-zero}
-use native.Mathlib.Numerals.{add-one}
 use native.Mathlib.Omega.{arith}
-use lib.ListN.{length, getD, set, drop, replicate, length-set, length-replicate}
+use lib.ListN.{length, set, length-set}
 use lib.Seq.{set-out}
-use lib.Dec.{eqb, ltb, leb}
-use borrow.Author.Tests.{eq-eqb, ne-eqb, lt-ltb, le-leb, leb-true}
+use lib.Dec.{eqb}
+use borrow.Author.Tests.{eq-eqb, ne-eqb}
 use Rattle.records.specs.Limits.{places}
-use Rattle.rules.specs.Lists.{all, those, nonzeroFrom, memb, rising, into, inOrder}
-use Rattle.basic_laws.specs.Cases.{by, and-true, and-both}
+use Rattle.rules.specs.Lists.{those, memb}
+use Rattle.basic_laws.specs.Cases.{by}
 use Rattle.rules.specs.Types.{Store, Tx, Write}
 use Rattle.rules.specs.Transaction.{finals}
 use Rattle.rules.specs.Chains.{walk}
-use Rattle.rules.specs.Puts.{ownSlots}
 use Rattle.rules.specs.Changes.{recycled}
-use Rattle.basic_laws.specs.Rising.{rising-less}
-use Rattle.fields.specs.Lent.{atPlaces, array-cons, array-end}
-use Rattle.visibility.specs.Slots.{ownSlot, own-slots}
-use Rattle.fields.specs.Marks.{markAll, markedFrom, mark-length, marks-in-order}
-
--- no slot is marked; shut, since a goal would show all its flags
-unfoldable pub noSlots : List Bool
-noSlots = replicate places false
-
--- the own slots from place i on, and all of them marked
-unfoldable pub ownFrom : List ℕ → List ℕ → ℕ → ℕ → List ℕ
-ownFrom xmin seen t i = those (ownSlot xmin seen t) (nonzeroFrom i (drop i xmin))
-
-unfoldable pub ownMarks : List ℕ → List ℕ → ℕ → List Bool
-ownMarks xmin seen t = markAll (ownFrom xmin seen t 0) noSlots
-
--- the slot at place i of a lent array: free, or another's, or on a chain; or own
-module _ (xmin seen : List ℕ) (t i : ℕ) where
-  pub own-end : places ≤ i → ownFrom (atPlaces xmin) seen t i ≡ []
-  unfolding ownFrom
-  own-end h = rw (array-end places 0 xmin i h)
-
-  module _ (lt : i < places) where
-    pub own-free : getD xmin i 0 ≡ 0 → ownFrom (atPlaces xmin) seen t i ≡ ownFrom (atPlaces xmin) seen t (i + 1)
-    unfolding ownFrom
-    own-free e = rw (array-cons places 0 xmin i lt, e, add-one)
-
-    pub own-not : (getD xmin i 0 ≡ 0 → ⊥) → {b : Bool} → b ≡ ownSlot (atPlaces xmin) seen t i → b ≡ false → ownFrom (atPlaces xmin) seen t i ≡ ownFrom (atPlaces xmin) seen t (i + 1)
-    unfolding ownFrom
-    own-not n e f = rw (array-cons places 0 xmin i lt, ne-eqb (getD xmin i 0) 0 n, ← e, f, add-one)
-
-    pub own-here : (getD xmin i 0 ≡ 0 → ⊥) → {b : Bool} → b ≡ ownSlot (atPlaces xmin) seen t i → b ≡ true → ownFrom (atPlaces xmin) seen t i ≡ i ∷ ownFrom (atPlaces xmin) seen t (i + 1)
-    unfolding ownFrom
-    own-here n e f = rw (array-cons places 0 xmin i lt, ne-eqb (getD xmin i 0) 0 n, ← e, f, add-one)
-
--- rising lists, filtered and in order
-rising-those : (f : ℕ → Bool) (lo : ℕ) (l : List ℕ) → rising lo l ≡ true → rising lo (those f l) ≡ true
-rising-those f lo [] r = refl
-rising-those f lo (x ∷ l) r =
-    let a = and-true (leb lo x) (rising (suc x) l) r in
-    let h = rising-those f (suc x) l (a .1) in
-    by (f x)
-    (λ e. rw e (and-both (leb lo x) (rising (suc x) (those f l)) (a .0) h))
-    (λ e. rw e (rising-less lo (suc x) (those f l) (omega (arith, leb-true lo x (a .0))) h))
-
-rising-nonzero : (p : ℕ) (l : List ℕ) → rising p (nonzeroFrom p l) ≡ true
-rising-nonzero p [] = refl
-rising-nonzero p (x ∷ l) =
-    let h = rising-nonzero (suc p) l in
-    by (eqb x 0)
-    (λ e. rw e (rising-less p (suc p) (nonzeroFrom (suc p) l) (omega arith) h))
-    (λ e. rw e (and-both (leb p p) (rising (suc p) (nonzeroFrom (suc p) l)) (le-leb p p (omega arith)) h))
-
-rising-order : (lo : ℕ) (l : List ℕ) → rising lo l ≡ true → inOrder l ≡ l
-rising-order lo [] r = refl
-rising-order lo (x ∷ l) r =
-    let a = and-true (leb lo x) (rising (suc x) l) r in rw (rising-order (suc x) l (a .1)) (first l (a .1))
-  where
-    first : (m : List ℕ) → rising (suc x) m ≡ true → into x m ≡ x ∷ m
-    first [] h = refl
-    first (y ∷ m) h = rw (lt-ltb x y (leb-true (suc x) y (and-true (leb (suc x) y) (rising (suc y) m) h .0)))
-
--- the places of an array are below its length
-below-nonzero : (n p : ℕ) (l : List ℕ) → p + length l ≤ n → all (λ r. ltb r n) (nonzeroFrom p l) ≡ true
-below-nonzero n p [] h = refl
-below-nonzero n p (x ∷ l) h =
-    let r = below-nonzero n (suc p) l (omega arith) in by (eqb x 0) (λ e. rw e r) (λ e. rw (e, lt-ltb p n (omega arith)) r)
-
-pub all-those {ℓ} : {A : Type ℓ} (f g : A → Bool) (l : List A) → all f l ≡ true → all f (those g l) ≡ true
-all-those f g [] h = refl
-all-those f g (x ∷ l) h =
-    let a = and-true (f x) (all f l) h in
-    let r = all-those f g l (a .1) in by (g x) (λ e. rw (e, a .0) r) (λ e. rw e r)
-
--- the marks, read rising, are the definition's own slots
-pub own-marked : (heads next xmin : List ℕ) (t : ℕ) → length xmin ≤ places → markedFrom 0 (ownMarks xmin (walk heads next .seen) t) ≡ ownSlots heads next xmin t
-unfolding ownMarks ownFrom noSlots
-own-marked heads next xmin t h =
-    let f = ownSlot xmin (walk heads next .seen) t in
-    let l = those f (nonzeroFrom 0 xmin) in
-    marks-in-order places l (all-those _ f (nonzeroFrom 0 xmin) (below-nonzero places 0 xmin (omega arith)))
-    ∙ rising-order 0 l (rising-those f 0 (nonzeroFrom 0 xmin) (rising-nonzero 0 xmin))
-    ∙ sym (own-slots heads next xmin t)
+use Rattle.visibility.specs.OwnMarks.{ownMarks, own-marked, own-long}
+use Rattle.fields.specs.Marks.{markedFrom}
 
 -- every number of l unmarked, one after the other
 abbrev pub unmarkAll : List ℕ → List Bool → List Bool
@@ -173,10 +90,6 @@ recycled-marked S x h =
     ∙ ap (those (λ p. not (memb p (map newOf (finals x))))) (own-marked (S .heads) (S .next) (S .xmin) (x .txid .0) h)
 
 -- there are as many flags as places
-pub own-long : (xmin seen : List ℕ) (t : ℕ) → length (ownMarks xmin seen t) ≡ places
-unfolding ownMarks noSlots
-own-long xmin seen t = mark-length (ownFrom xmin seen t 0) (replicate places false) ∙ length-replicate places false
-
 unmark-length : (l : List ℕ) (m : List Bool) → length (unmarkAll l m) ≡ length m
 unmark-length [] m = refl
 unmark-length (r ∷ l) m = unmark-length l (set m r false) ∙ length-set m r false

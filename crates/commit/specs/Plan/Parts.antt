@@ -1,6 +1,6 @@
 -- The puts of each gate as one row of blocks, most of them empty at most gates: the form in which code pushes them.
 use mathlib.Core.Path.{_≡_, sym, ap, _∙_}
-use mathlib.Core.Bool.{Bool, true, false, cond, _||_}
+use mathlib.Core.Bool.{Bool, not, cond, _&&_, _||_}
 use mathlib.Core.List.{List, [], _∷_, _++_, map, append-assoc, append-nil}
 use Prim.Native.Nat.{ℕ, zero, suc, _+_, _≤_, _<_}
 use native.Mathlib.Nat.{not-suc-le-zero, le-of-suc-le-suc, add-zero, zero-add}
@@ -13,10 +13,8 @@ use Rattle.rules.specs.Changes.{indexGuards, partitionGuards, release, insertio
 use Rattle.rules.specs.Commit.{count, finish}
 use Rattle.run_laws.specs.Outcome.{aborting, rollingBack, worse, undoing, abortingLate}
 use Rattle.run_laws.specs.Gates.{gates, clean}
-
--- the gate after the last: the run that passes them all
-abbrev pub cleanGate : ℕ
-cleanGate = 27
+use Rattle.steps.specs.GateTable.{partitionGuardsFailed, unloggedCheckFailed, insertFailed, callbackEnded, removeFailed, publishFailed, recycleFailed}
+use Rattle.steps.specs.GateTable.{finishFailed, stampFailed, leftByAbort, cleanGate, rowAt, leftAt}
 
 -- a block that is stored from a gate on; and one whose first k puts are stored at a gate of its own, and all of it after
 abbrev pub after : ℕ → ℕ → List Put → List Put
@@ -35,31 +33,32 @@ count-at p zero i d h = absurd (not-suc-le-zero h)
 count-at p (suc n) zero d h = sym (add-zero p)
 count-at p (suc n) (suc i) d h = count-at (suc p) n i d (le-of-suc-le-suc h) ∙ omega arith
 
--- the gates that abort, and let go what they hold before
-unfoldable pub aborters : List Bool
-aborters = false ∷ false ∷ true ∷ true ∷ true ∷ false ∷ true ∷ false ∷ true ∷ false ∷ false ∷ true ∷ false ∷ true ∷ false ∷ true ∷ false ∷ true ∷ false ∷ true ∷ []
+-- the gates that abort at once, and let go what they hold before; a callback's aborts later
+unfoldable pub abortsAt : ℕ → Bool
+abortsAt g = not (eqb g callbackEnded) && eqb (leftAt g) leftByAbort
 
 -- a callback's, by its letter; a failed removal's or stamp's; the doom of a failed publication, recycling or finish
 abbrev pub poisonsOf : Bool → ℕ → ℕ → List Put
 poisonsOf bad t g =
-    cond (eqb g 21) (cond bad (putPoison ∷ []) [])
-    (cond (eqb g 22 || eqb g 26) (putPoison ∷ []) (cond (eqb g 23 || (eqb g 24 || eqb g 25)) (putDoom t ∷ []) []))
+    cond (eqb g callbackEnded) (cond bad (putPoison ∷ []) [])
+    (cond (eqb g removeFailed || eqb g stampFailed) (putPoison ∷ [])
+    (cond (eqb g publishFailed || (eqb g recycleFailed || eqb g finishFailed)) (putDoom t ∷ []) []))
 
 module _ (S : Store) (x : Tx) (logged : Bool) (plan : Schedule) where
   -- the stores of the steps up to the gate: guards and postings, then rows
   unfoldable pub taken : ℕ → List Put
   taken g =
-      after 7 g (indexGuards S x (x .txid .0))
-      ++ (after 9 g (partitionGuards x (x .txid .0))
-      ++ (upTo 20 g (count S x logged plan 15) (insertions S x)
-      ++ upTo 22 g (count S x logged plan 17) (removals S x)))
+      after partitionGuardsFailed g (indexGuards S x (x .txid .0))
+      ++ (after unloggedCheckFailed g (partitionGuards x (x .txid .0))
+      ++ (upTo insertFailed g (count S x logged plan 15) (insertions S x)
+      ++ upTo removeFailed g (count S x logged plan 17) (removals S x)))
 
   unfoldable pub passed : ℕ → List Put
   passed g =
-      upTo 23 g (count S x logged plan 18) (publication x)
-      ++ (upTo 24 g (count S x logged plan 19) (recycling S x)
-      ++ (after 26 g (putDrop (x .txid .0) ∷ [])
-      ++ upTo 26 g (count S x logged plan 22) (stamping S x)))
+      upTo publishFailed g (count S x logged plan 18) (publication x)
+      ++ (upTo recycleFailed g (count S x logged plan 19) (recycling S x)
+      ++ (after stampFailed g (putDrop (x .txid .0) ∷ [])
+      ++ upTo stampFailed g (count S x logged plan 22) (stamping S x)))
 
   unfoldable pub stored : ℕ → List Put
   stored g = taken g ++ passed g
@@ -70,30 +69,30 @@ module _ (S : Store) (x : Tx) (logged : Bool) (plan : Schedule) where
 
   -- the insertions taken back
   unfoldable pub undoes : ℕ → List Put
-  undoes g = cond (eqb g 20) (rollingBack S x logged plan .puts) (cond (eqb g 21) (undoing S x logged plan .puts) [])
+  undoes g = cond (eqb g insertFailed) (rollingBack S x logged plan .puts) (cond (eqb g callbackEnded) (undoing S x logged plan .puts) [])
 
   -- the abort of a failed callback, and the finish of a failed publication or recycling
   unfoldable pub drops : ℕ → List Put
-  drops g = cond (eqb g 21) (abortingLate S x logged plan .puts) (cond (eqb g 23 || eqb g 24) (finish S x logged plan) [])
+  drops g = cond (eqb g callbackEnded) (abortingLate S x logged plan .puts) (cond (eqb g publishFailed || eqb g recycleFailed) (finish S x logged plan) [])
 
   -- the guards let go
   unfoldable pub lets : ℕ → List Put
-  lets g = cond (ltb g 7) [] (cond (ltb g 9) (indexGuards S x 0) (release S x))
+  lets g = cond (ltb g partitionGuardsFailed) [] (cond (ltb g unloggedCheckFailed) (indexGuards S x 0) (release S x))
 
   -- the abort of the gates up to the tests
   unfoldable pub dies : ℕ → List Put
-  dies g = cond (getD aborters g false) (aborting S x logged plan .puts) []
+  dies g = cond (abortsAt g) (aborting S x logged plan .puts) []
 
   unfoldable pub putsAt : ℕ → List Put
   putsAt g = stored g ++ (poisons g ++ (undoes g ++ (drops g ++ (lets g ++ dies g))))
 
-  -- gates 0 to 27
+  -- all the gates, and the clean run after them
   all-puts : map (λ g. g .then .puts) (gates S x logged plan) ++ clean S x logged plan .puts ∷ [] ≡ map putsAt (countFrom 0 (suc cleanGate))
-  unfolding gates putsAt stored taken passed poisons undoes drops lets dies aborters
+  unfolding gates putsAt stored taken passed poisons undoes drops lets dies abortsAt rowAt
   all-puts = simp (append-assoc, append-nil)
 
   last-puts : clean S x logged plan .puts ≡ putsAt cleanGate
-  unfolding putsAt stored taken passed poisons undoes drops lets dies aborters
+  unfolding putsAt stored taken passed poisons undoes drops lets dies abortsAt rowAt
   last-puts = simp (append-assoc, append-nil)
 
   -- so they are the puts of commit's gates

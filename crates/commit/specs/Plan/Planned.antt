@@ -9,6 +9,7 @@ use lib.ListN.{length, take}
 use lib.Seq.{take-all}
 use lib.Dec.{eqb, ltb}
 use Rattle.records.specs.Limits.{places, writeLimit}
+use Rattle.records.specs.Relations.{run-puts}
 use Rattle.records.specs.Zero.{noWrite}
 use Rattle.rules.specs.Lists.{pad}
 use Rattle.rules.specs.Types.{Store, Tx, Write, Schedule}
@@ -22,6 +23,7 @@ use Rattle.run_laws.specs.Outcome.{worse}
 use Rattle.journal.specs.Journal.{putLimit}
 use Rattle.journal.specs.Adds.{Adds, adds-then}
 use Rattle.fields.specs.Pad.{take-pad}
+use Rattle.steps.specs.GateTable.{partitionGuardsFailed, unloggedCheckFailed, insertFailed, removeFailed, publishFailed, recycleFailed, stampFailed}
 use Rattle.commit.specs.declared.plan.moves.Moves.{Moves}
 use Rattle.commit.specs.declared.plan.run.Plan.{Plan}
 use Rattle.commit.specs.declared.plan.run.Struck.{Struck}
@@ -29,7 +31,8 @@ use Rattle.fields.specs.Marks.{markAll}
 use Rattle.commit.specs.Plan.Plain.{low, low-same, finals-plain}
 use Rattle.commit.specs.Plan.Moves.{codesOf, changedMarks, movesOf}
 use Rattle.commit.specs.Plan.Guards.{stripeRead, guardedMarks, partitionMarks}
-use Rattle.commit.specs.Plan.Own.{ownMarks, unmarkAll, newOf, recycledMarks}
+use Rattle.visibility.specs.OwnMarks.{ownMarks}
+use Rattle.commit.specs.Plan.Own.{unmarkAll, newOf, recycledMarks}
 use Rattle.commit.specs.Plan.Few.{finals-fit, insertions-few, removals-few, publication-few, recycling-few, stamping-few}
 use Rattle.commit.specs.Plan.Parts.{after, upTo, taken, passed}
 
@@ -128,32 +131,33 @@ module _ {S : Store} {x : Tx} {logged : Bool} {plan : Schedule} {p : Plan} {s : 
 
   -- guards and postings; rows
   pub taken-put : (g : ℕ) {j₀ j₁ j₂ j₃ j₄ : List ℕ} {n₀ n₁ n₂ n₃ n₄ l m : ℕ}
-      → Adds j₀ n₀ (after 7 g (indexGuards S x (p .txid))) j₁ n₁ → Adds j₁ n₁ (after 9 g (partitionGuards x (p .txid))) j₂ n₂
-      → l ≡ limitAt g 20 (s .inserted) → Adds j₂ n₂ (take l (insertions S x)) j₃ n₃ → m ≡ limitAt g 22 (s .removed) → Adds j₃ n₃ (take m (removals S x)) j₄ n₄
+      → Adds j₀ n₀ (after partitionGuardsFailed g (indexGuards S x (p .txid))) j₁ n₁ → Adds j₁ n₁ (after unloggedCheckFailed g (partitionGuards x (p .txid))) j₂ n₂
+      → l ≡ limitAt g insertFailed (s .inserted) → Adds j₂ n₂ (take l (insertions S x)) j₃ n₃ → m ≡ limitAt g removeFailed (s .removed) → Adds j₃ n₃ (take m (removals S x)) j₄ n₄
       → Adds j₀ n₀ (taken S x logged plan g) j₄ n₄
   unfolding taken struckOf
   taken-put g {l = l} {m = m} a b e c f d =
       let i : s .inserted ≡ count S x logged plan 15 = ap (λ q. q .inserted) (h .strikes) in
       let r : s .removed ≡ count S x logged plan 17 = ap (λ q. q .removed) (h .strikes) in
-      let in-room : length (insertions S x) ≤ putLimit = omega (arith, insertions-few S x (h .fits)) in
-      let out-room : length (removals S x) ≤ putLimit = omega (arith, removals-few S x (h .fits)) in
+      let in-room : length (insertions S x) ≤ putLimit = omega (arith, insertions-few S x (h .fits), run-puts) in
+      let out-room : length (removals S x) ≤ putLimit = omega (arith, removals-few S x (h .fits), run-puts) in
       adds-then (rw txid-is at a) (adds-then (rw txid-is at b)
-      (adds-then (limited g 20 _ l (insertions S x) in-room (rw i at e) c) (limited g 22 _ m (removals S x) out-room (rw r at f) d)))
+      (adds-then (limited g insertFailed _ l (insertions S x) in-room (rw i at e) c) (limited g removeFailed _ m (removals S x) out-room (rw r at f) d)))
 
   pub passed-put : (g : ℕ) {j₀ j₁ j₂ j₃ j₄ : List ℕ} {n₀ n₁ n₂ n₃ n₄ l m k : ℕ}
-      → l ≡ limitAt g 23 (s .published) → Adds j₀ n₀ (take l (publication x)) j₁ n₁ → m ≡ limitAt g 24 (s .recycled) → Adds j₁ n₁ (take m (recycling S x)) j₂ n₂
-      → Adds j₂ n₂ (after 26 g (putDrop (p .txid) ∷ [])) j₃ n₃ → k ≡ limitAt g 26 (s .stamped) → Adds j₃ n₃ (take k (stamping S x)) j₄ n₄
+      → l ≡ limitAt g publishFailed (s .published) → Adds j₀ n₀ (take l (publication x)) j₁ n₁ → m ≡ limitAt g recycleFailed (s .recycled) → Adds j₁ n₁ (take m (recycling S x)) j₂ n₂
+      → Adds j₂ n₂ (after stampFailed g (putDrop (p .txid) ∷ [])) j₃ n₃ → k ≡ limitAt g stampFailed (s .stamped) → Adds j₃ n₃ (take k (stamping S x)) j₄ n₄
       → Adds j₀ n₀ (passed S x logged plan g) j₄ n₄
   unfolding passed struckOf
   passed-put g {l = l} {m = m} {k = k} e a q b c w d =
       let i : s .published ≡ count S x logged plan 18 = ap (λ q. q .published) (h .strikes) in
       let f : s .recycled ≡ count S x logged plan 19 = ap (λ q. q .recycled) (h .strikes) in
       let t : s .stamped ≡ count S x logged plan 22 = ap (λ q. q .stamped) (h .strikes) in
-      let rows-room : length (publication x) ≤ putLimit = omega (arith, publication-few S x (h .fits)) in
-      let free-room : length (recycling S x) ≤ putLimit = omega (arith, recycling-few S x (h .long)) in
-      let stamp-room : length (stamping S x) ≤ putLimit = omega (arith, stamping-few S x) in
-      adds-then (limited g 23 _ l (publication x) rows-room (rw i at e) a) (adds-then (limited g 24 _ m (recycling S x) free-room (rw f at q) b)
-      (adds-then (rw txid-is at c) (limited g 26 _ k (stamping S x) stamp-room (rw t at w) d)))
+      let rows-room : length (publication x) ≤ putLimit = omega (arith, publication-few S x (h .fits), run-puts) in
+      let free-room : length (recycling S x) ≤ putLimit = omega (arith, recycling-few S x (h .long), run-puts) in
+      let stamp-room : length (stamping S x) ≤ putLimit = omega (arith, stamping-few S x, run-puts) in
+      adds-then (limited g publishFailed _ l (publication x) rows-room (rw i at e) a)
+      (adds-then (limited g recycleFailed _ m (recycling S x) free-room (rw f at q) b)
+      (adds-then (rw txid-is at c) (limited g stampFailed _ k (stamping S x) stamp-room (rw t at w) d)))
 
 -- the plan from the arrays that a commit reads, whatever they hold
 unfoldable pub planFrom : List ℕ → List Bool → List ℕ → List ℕ → Tx → List Write → ℕ → Plan

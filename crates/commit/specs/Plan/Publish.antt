@@ -9,6 +9,7 @@ use lib.ListN.{length, getD, drop, take, drop-of-length-le, length-take}
 use lib.Seq.{drop-cons, getD-take}
 use lib.Dec.{eqb}
 use borrow.Author.Tests.{eq-eqb, ne-eqb}
+use Rattle.records.specs.Relations.{rows-placed, slots-placed, slots-narrow}
 use Rattle.records.specs.Zero.{noWrite}
 use Rattle.rules.specs.Lists.{all, flat}
 use Rattle.basic_laws.specs.Cases.{by}
@@ -25,10 +26,10 @@ use Rattle.journal.specs.Pushing.{Pushing, pushing-more}
 
 -- the puts of a plain write can be journalled
 pub head-kept : (w : Write) → plain w ≡ true → Kept (putHead (w .row .0) (w .new .0))
-head-kept w p = let i = plain-parts w p in kept-small (putHead (w .row .0) (w .new .0)) (omega arith) (omega (arith, i .0)) (omega (arith, i .2))
+head-kept w p = let i = plain-parts w p in kept-small (putHead (w .row .0) (w .new .0)) (omega arith) (omega (arith, i .0, rows-placed)) (omega (arith, i .2, slots-narrow))
 
 pub xmax-kept : (w : Write) (t : ℕ) → plain w ≡ true → Kept (putXmax (w .base .0) t)
-xmax-kept w t p = let i = plain-parts w p in kept-wide (putXmax (w .base .0) t) (omega arith) (omega (arith, i .1)) refl
+xmax-kept w t p = let i = plain-parts w p in kept-wide (putXmax (w .base .0) t) (omega arith) (omega (arith, i .1, slots-placed)) refl
 
 -- the first `limit` puts of one write
 unfoldable pub ofWrite : ℕ → ℕ → Write → List Put

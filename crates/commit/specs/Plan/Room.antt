@@ -6,6 +6,7 @@ use Prim.Native.Nat.{ℕ, suc, _+_, _≤_}
 use native.Mathlib.Omega.{arith}
 use lib.ListN.{length, take, length-append, length-map, length-take, length-reverse}
 use Rattle.records.specs.Limits.{stripes, partitions, places, writeLimit}
+use Rattle.records.specs.Relations.{run-puts, undo-puts}
 use Rattle.basic_laws.specs.Cases.{by}
 use Rattle.rules.specs.Types.{Store, Tx, Schedule, Fate, Refusal}
 use Rattle.rules.specs.Fit.{fit}
@@ -14,7 +15,8 @@ use Rattle.rules.specs.Changes.{changes, destinations, indexGuards, partitionGu
 use Rattle.rules.specs.Commit.{End, runOf, fails, count, poison, abortOrPoison, rollback, finish}
 use Rattle.run_laws.specs.Outcome.{Taken, neither, index, both, Spoil, unremoved, unpublished, unrecycled, unfinished, guardsTaken, afterStamp, worse, Outcome, done, stays, aborts, uninserted, uncalled, spoils, unstamped, outcome}
 use Rattle.journal.specs.Journal.{putLimit}
-use Rattle.commit.specs.Plan.Few.{index-guards-few, partition-guards-few, release-few, destinations-fit, insertions-few, removals-few, publication-few, recycling-few, stamping-few, abort-few}
+use Rattle.visibility.specs.OwnMarks.{abort-puts, abort-few}
+use Rattle.commit.specs.Plan.Few.{index-guards-few, partition-guards-few, release-few, destinations-fit, insertions-few, removals-few, publication-few, recycling-few, stamping-few}
 
 -- at most n puts
 pub record Most (ps : List Put) (n : ℕ) : Type 0 where
@@ -50,7 +52,9 @@ module _ (S : Store) (x : Tx) (logged : Bool) (plan : Schedule) (ok : fit S x �
   abort-most : (already : Bool) → Most (abortOrPoison S x logged plan already .puts) (suc places)
   unfolding abortOrPoison
   abort-most already =
-      by (fails S x logged plan 23) (λ e. rw e (up (suc places) (poison-most already) (omega arith))) (λ e. rw e (most-of _ (abort-few S long (x .txid .0))))
+      by (fails S x logged plan 23)
+      (λ e. rw e (up (suc places) (poison-most already) (omega arith)))
+      (λ e. rw e (most-of _ (rw (abort-puts S (x .txid .0)) (abort-few (S .heads) (S .next) (S .xmin) (x .txid .0) long))))
 
   rollback-most : (already : Bool) (made : List ℕ) → length made ≤ writeLimit → Most (rollback S x logged plan already made .puts) (suc writeLimit)
   unfolding rollback
@@ -91,27 +95,27 @@ module _ (S : Store) (x : Tx) (logged : Bool) (plan : Schedule) (ok : fit S x �
 
   spoil-most : {n : ℕ} {made some fin : List Put} {p : Put} {kind : Fate → Refusal} {y : Tx} {drops : Bool} → Spoil S x logged plan n made some p fin kind y drops
       → Most (made ++ (some ++ p ∷ fin ++ release S x)) putLimit
-  spoil-most (unremoved k) = up putLimit (join (join guards inserting) (join (join (part (count S x logged plan 17) removing) (one putPoison)) leaving)) (omega arith)
-  spoil-most (unpublished k) = up putLimit (join (join (join guards inserting) removing) (join (join (part (count S x logged plan 18) publishing) (join (one (putDoom (x .txid .0))) finishing)) leaving)) (omega arith)
-  spoil-most (unrecycled k) = up putLimit (join (join (join (join guards inserting) removing) publishing) (join (join (part (count S x logged plan 19) freeing) (join (one (putDoom (x .txid .0))) finishing)) leaving)) (omega arith)
-  spoil-most (unfinished k) = up putLimit (join (join (join (join (join guards inserting) removing) publishing) freeing) (join (one (putDoom (x .txid .0))) leaving)) (omega arith)
+  spoil-most (unremoved k) = up putLimit (join (join guards inserting) (join (join (part (count S x logged plan 17) removing) (one putPoison)) leaving)) (omega (arith, run-puts))
+  spoil-most (unpublished k) = up putLimit (join (join (join guards inserting) removing) (join (join (part (count S x logged plan 18) publishing) (join (one (putDoom (x .txid .0))) finishing)) leaving)) (omega (arith, run-puts))
+  spoil-most (unrecycled k) = up putLimit (join (join (join (join guards inserting) removing) publishing) (join (join (part (count S x logged plan 19) freeing) (join (one (putDoom (x .txid .0))) finishing)) leaving)) (omega (arith, run-puts))
+  spoil-most (unfinished k) = up putLimit (join (join (join (join (join guards inserting) removing) publishing) freeing) (join (one (putDoom (x .txid .0))) leaving)) (omega (arith, run-puts))
 
   stamped : Most (afterStamp S x logged plan) (stripes + partitions + writeLimit + writeLimit + (writeLimit + writeLimit) + places + 1 + stripes)
   stamped = join (join (join (join (join (join guards inserting) removing) publishing) freeing) (one (putDrop (x .txid .0)))) stamps
 
   ends-most : {n : ℕ} {ps : List Put} {d : End} → Outcome S x logged plan n ps d → Most ps putLimit
-  ends-most (done p) = up putLimit (join stamped leaving) (omega arith)
-  ends-most (stays l t k) = let m = taken-most t in up putLimit (join (m .0) (m .1)) (omega arith)
-  ends-most (aborts l t k) = let m = taken-most t in up putLimit (join (m .0) (join (m .1) (abort-most (S .poisoned)))) (omega arith)
+  ends-most (done p) = up putLimit (join stamped leaving) (omega (arith, run-puts))
+  ends-most (stays l t k) = let m = taken-most t in up putLimit (join (m .0) (m .1)) (omega (arith, run-puts))
+  ends-most (aborts l t k) = let m = taken-most t in up putLimit (join (m .0) (join (m .1) (abort-most (S .poisoned)))) (omega (arith, run-puts))
   ends-most (uninserted p k) =
       let d = destinations (changes S x) in
       let h = destinations-fit S x ok in
-      up putLimit (join guards (join (part (count S x logged plan 15) inserting) (join (rollback-most false (take (count S x logged plan 15) d) (omega (arith, length-take (count S x logged plan 15) d))) leaving))) (omega arith)
+      up putLimit (join guards (join (part (count S x logged plan 15) inserting) (join (rollback-most false (take (count S x logged plan 15) d) (omega (arith, length-take (count S x logged plan 15) d))) leaving))) (omega (arith, run-puts))
   ends-most (uncalled p l k) =
-      up putLimit (join (join guards inserting) (join (pick (worse S x logged plan) (one putPoison) (up 1 none (omega arith))) (join (rollback-most (worse S x logged plan) (destinations (changes S x)) (destinations-fit S x ok)) (join (abort-most _) leaving)))) (omega arith)
+      up putLimit (join (join guards inserting) (join (pick (worse S x logged plan) (one putPoison) (up 1 none (omega arith))) (join (rollback-most (worse S x logged plan) (destinations (changes S x)) (destinations-fit S x ok)) (join (abort-most _) leaving)))) (omega (arith, undo-puts))
   ends-most (spoils p k) = spoil-most k
   ends-most (unstamped p k) =
-      up putLimit (join (join (join (join (join (join guards inserting) removing) publishing) freeing) (one (putDrop (x .txid .0)))) (join (part (count S x logged plan 22) stamps) (join (one putPoison) leaving))) (omega arith)
+      up putLimit (join (join (join (join (join (join guards inserting) removing) publishing) freeing) (one (putDrop (x .txid .0)))) (join (part (count S x logged plan 22) stamps) (join (one putPoison) leaving))) (omega (arith, run-puts))
 
   -- so what a run pushes into an empty journal is all there
   pub run-room : length (runOf S x logged plan .puts) ≤ putLimit

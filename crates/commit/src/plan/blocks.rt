@@ -16,12 +16,16 @@ ghost use Rattle.rules.specs.Changes.{changes, destinations, sources, indexGuar
 ghost use Rattle.journal.specs.Adds.{Adds};
 ghost use Rattle.commit.specs.Plan.Moves.{codesOf, changedMarks};
 ghost use Rattle.commit.specs.Plan.Guards.{guardedMarks, partitionMarks};
-ghost use Rattle.commit.specs.Plan.Own.{ownMarks, recycledMarks};
+ghost use Rattle.visibility.specs.OwnMarks.{ownMarks};
+ghost use Rattle.commit.specs.Plan.Own.{recycledMarks};
 use super::moves::Codes;
 use super::publish;
 use super::pushes;
 use journal::Journal;
 use journal::Kind;
+use journal::at_marks;
+use journal::at_marks::push_frees;
+use journal::at_marks::push_marked;
 use records::RowId;
 use records::SlotPtr;
 use records::Store;
@@ -38,7 +42,7 @@ pub fn push_index_guards(
 ) -> usize
     ensures { λ r. ⌜ ((S : Store) (x : Tx) → now (stripes .entry) ≡ guardedMarks (changes S x) x → fit S x ≡ true → Adds (now (j .entry)) n (indexGuards S x t) (now (j .exit)) r) ⌝ }
 {
-    pushes::push_marked(stripes, Kind::STRIPE, t, Store::STRIPES, j, n)
+    push_marked(stripes, Kind::STRIPE, t, Store::STRIPES, j, n)
 }
 
 // The partition guards set to t.
@@ -50,7 +54,7 @@ pub fn push_partition_guards(
 ) -> usize
     ensures { λ r. ⌜ ((x : Tx) → now (partitions .entry) ≡ partitionMarks x → Adds (now (j .entry)) n (partitionGuards x t) (now (j .exit)) r) ⌝ }
 {
-    pushes::push_marked(partitions, Kind::PARTITION, t, RowId::PARTITIONS, j, n)
+    push_marked(partitions, Kind::PARTITION, t, RowId::PARTITIONS, j, n)
 }
 
 // All guards let go, the partitions' first.
@@ -119,7 +123,7 @@ pub fn push_recycling(
 ) -> usize
     ensures { λ r. ⌜ ((S : Store) (x : Tx) → now (recycled .entry) ≡ recycledMarks (S .xmin) (walk (S .heads) (S .next) .seen) x → length (S .xmin) ≤ places → Adds (now (j .entry)) n (take limit (recycling S x)) (now (j .exit)) r) ⌝ }
 {
-    pushes::push_marked(recycled, Kind::FREE, 0, limit, j, n)
+    push_frees(recycled, limit, j, n)
 }
 
 // The first `limit` stamps.
@@ -132,7 +136,7 @@ pub fn push_stamping(
 ) -> usize
     ensures { λ r. ⌜ ((S : Store) (x : Tx) → now (changed .entry) ≡ changedMarks (changes S x) → t ≡ x .txid .0 → Adds (now (j .entry)) n (take limit (stamping S x)) (now (j .exit)) r) ⌝ }
 {
-    pushes::push_marked(changed, Kind::STAMP, t, limit, j, n)
+    push_marked(changed, Kind::STAMP, t, limit, j, n)
 }
 
 // The txid leaves the active list.
@@ -165,6 +169,5 @@ pub fn push_abort(
 ) -> usize
     ensures { λ r. ⌜ ((S : Store) → now (own .entry) ≡ ownMarks (S .xmin) (walk (S .heads) (S .next) .seen) t → length (S .xmin) ≤ places → Adds (now (j .entry)) n (abortPuts S t) (now (j .exit)) r) ⌝ }
 {
-    let k = pushes::push_marked(own, Kind::FREE, 0, SlotPtr::PLACES, j, n);
-    push_drop(t, j, k)
+    at_marks::push_abort(own, t, j, n)
 }

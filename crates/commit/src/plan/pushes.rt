@@ -1,43 +1,14 @@
-// Runs of puts of one kind: at marked places, and of listed postings.
+// Runs of puts of one kind, of listed postings.
 
 ghost use mathlib.Core.Path.{_≡_};
 ghost use mathlib.Core.Bool.{false};
 ghost use Prim.Native.Nat.{_≤_};
-ghost use lib.ListN.{length};
-ghost use Rattle.rules.specs.Puts.{kLock};
-ghost use Rattle.journal.specs.Journal.{placeBase, narrow};
+ghost use Rattle.rules.specs.Puts.{lastKind};
+ghost use Rattle.journal.specs.Journal.{narrow};
 ghost use Rattle.journal.specs.Adds.{Adds};
-ghost use Rattle.commit.specs.Plan.Pushes.{marked, listed, listedBack};
+ghost use Rattle.commit.specs.Plan.Pushes.{listed, listedBack};
 use journal::Journal;
 use fields::lent::clipped;
-
-// A put of one kind and value for each marked place, rising, and no more than `limit`: guards, stamps, frees.
-pub(crate) fn push_marked(
-    marks: &[bool],
-    kind: u64,
-    val: u64,
-    limit: usize,
-    j: &mut [u64; Journal::WORDS],
-    n: usize,
-) -> usize
-    ensures { λ r. ⌜ (length (now (marks .entry)) ≤ placeBase → kind ≤ kLock → narrow kind ≡ false → Adds (now (j .entry)) n (marked kind val limit 0 (now (marks .entry))) (now (j .exit)) r) ⌝ }
-{
-    let mut k = n;
-    let mut left = limit;
-    let mut i: usize = 0;
-    while i < marks.len() {
-        if left == 0 {
-            return k;
-        }
-        let at = i;
-        i += 1;
-        if marks[at] {
-            left -= 1;
-            k = journal::push(j, k, kind, at, val);
-        }
-    }
-    k
-}
 
 // A put of one kind for each posting of a list, and no more than `limit`: insertions and removals.
 pub(crate) fn push_listed(
@@ -47,7 +18,7 @@ pub(crate) fn push_listed(
     j: &mut [u64; Journal::WORDS],
     n: usize,
 ) -> usize
-    ensures { λ r. ⌜ (kind ≤ kLock → narrow kind ≡ false → Adds (now (j .entry)) n (listed kind limit 0 (now (codes .entry))) (now (j .exit)) r) ⌝ }
+    ensures { λ r. ⌜ (kind ≤ lastKind → narrow kind ≡ false → Adds (now (j .entry)) n (listed kind limit 0 (now (codes .entry))) (now (j .exit)) r) ⌝ }
 {
     let mut k = n;
     let mut left = limit;
@@ -73,7 +44,7 @@ pub(crate) fn push_back(
     j: &mut [u64; Journal::WORDS],
     n: usize,
 ) -> usize
-    ensures { λ r. ⌜ (kind ≤ kLock → narrow kind ≡ false → Adds (now (j .entry)) n (listedBack kind limit from (now (codes .entry))) (now (j .exit)) r) ⌝ }
+    ensures { λ r. ⌜ (kind ≤ lastKind → narrow kind ≡ false → Adds (now (j .entry)) n (listedBack kind limit from (now (codes .entry))) (now (j .exit)) r) ⌝ }
 {
     let mut k = n;
     let mut left = limit;

@@ -4,7 +4,7 @@ ghost use mathlib.Core.Path.{_≡_};
 ghost use mathlib.Core.Bool.{Bool, true, false, _||_};
 ghost use mathlib.Core.List.{[], _∷_};
 ghost use Prim.Native.Nat.{_≤_};
-ghost use lib.ListN.{length, getD, take};
+ghost use lib.ListN.{length, take};
 ghost use Rattle.records.specs.Limits.{places};
 ghost use Rattle.rules.specs.Types.{Store, Tx, Schedule};
 ghost use Rattle.rules.specs.Chains.{walk};
@@ -14,10 +14,11 @@ ghost use Rattle.rules.specs.Changes.{changes, destinations, indexGuards, parti
 ghost use Rattle.rules.specs.Commit.{fails, poison, abortOrPoison, rollback};
 ghost use Rattle.journal.specs.Adds.{Adds};
 ghost use Rattle.fields.specs.Lent.{atPlaces, flagsAtPlaces};
+ghost use Rattle.steps.specs.GateTable.{partitionGuardsFailed, unloggedCheckFailed, stampFailed};
 ghost use Rattle.commit.specs.Plan.Moves.{codesOf};
 ghost use Rattle.commit.specs.Plan.Guards.{guardedMarks, partitionMarks};
-ghost use Rattle.commit.specs.Plan.Own.{ownMarks};
-ghost use Rattle.commit.specs.Plan.Parts.{after, aborters, poisonsOf, taken, passed, undoes, drops, lets, dies, putsAt};
+ghost use Rattle.visibility.specs.OwnMarks.{ownMarks};
+ghost use Rattle.commit.specs.Plan.Parts.{after, abortsAt, poisonsOf, taken, passed, undoes, drops, lets, dies, putsAt};
 ghost use Rattle.commit.specs.Plan.Planned.{planFrom, Planned, limitAt, struckOf};
 use super::blocks;
 use super::guards;
@@ -25,6 +26,9 @@ use super::moves;
 use super::moves::Codes;
 use super::own;
 use journal::Journal;
+use steps::gate::Gate;
+use steps::gate::left_at;
+use visibility::own_slots::own_marks;
 use records::RowId;
 use records::SlotPtr;
 use records::Store;
@@ -80,7 +84,7 @@ pub fn plan_of<'a>(
     let changed = m.stripes;
     let stripes = guards::guarded_stripes(x, changed);
     let partitions = guards::guarded_partitions(x);
-    let mine = own::own_marks(xmin, seen, x.txid);
+    let mine = own_marks(xmin, seen, x.txid);
     let recycled = own::recycled_marks(mine, at, count);
     Plan {
         txid: x.txid.0,
@@ -96,58 +100,6 @@ pub fn plan_of<'a>(
     }
 }
 
-// The gates by their numbers, where what is stored changes.
-struct Gate;
-
-impl Gate {
-    // the stripes are guarded, then the partitions too
-    const STRIPES: usize = 7;
-
-    const PARTITIONS: usize = 9;
-
-    // steps 15 to 22 that fail
-    const INSERT: usize = 20;
-
-    const CALLBACK: usize = 21;
-
-    const REMOVE: usize = 22;
-
-    const PUBLISH: usize = 23;
-
-    const RECYCLE: usize = 24;
-
-    const FINISH: usize = 25;
-
-    const STAMP: usize = 26;
-
-    // the tests of steps 11 to 14 come before this gate
-    const TESTED: usize = 20;
-
-    // Which of them abort at once.
-    const ABORTS: [bool; Gate::TESTED] = [
-        false,
-        false,
-        true,
-        true,
-        true,
-        false,
-        true,
-        false,
-        true,
-        false,
-        false,
-        true,
-        false,
-        true,
-        false,
-        true,
-        false,
-        true,
-        false,
-        true,
-    ];
-}
-
 // How many puts of a block are pushed: none before its own gate, k there, and then all.
 fn limit_at(gate: usize, own: usize, k: usize) -> usize
     ensures { λ r. ⌜ r ≡ limitAt gate own k ⌝ }
@@ -161,6 +113,7 @@ fn limit_at(gate: usize, own: usize, k: usize) -> usize
     Journal::PUTS
 }
 
+// The stripes are taken once the partitions' turn has come, the partitions once the check after them has.
 fn take_stripes(
     stripes: &[bool; Store::STRIPES],
     gate: usize,
@@ -168,9 +121,9 @@ fn take_stripes(
     j: &mut [u64; Journal::WORDS],
     n: usize,
 ) -> usize
-    ensures { λ r. ⌜ ((S : Store) (x : Tx) → now (stripes .entry) ≡ guardedMarks (changes S x) x → fit S x ≡ true → Adds (now (j .entry)) n (after 7 gate (indexGuards S x t)) (now (j .exit)) r) ⌝ }
+    ensures { λ r. ⌜ ((S : Store) (x : Tx) → now (stripes .entry) ≡ guardedMarks (changes S x) x → fit S x ≡ true → Adds (now (j .entry)) n (after partitionGuardsFailed gate (indexGuards S x t)) (now (j .exit)) r) ⌝ }
 {
-    if gate < Gate::STRIPES {
+    if gate < Gate::PARTITION_GUARDS_FAILED {
         return n;
     }
     blocks::push_index_guards(stripes, t, j, n)
@@ -183,18 +136,18 @@ fn take_partitions(
     j: &mut [u64; Journal::WORDS],
     n: usize,
 ) -> usize
-    ensures { λ r. ⌜ ((x : Tx) → now (partitions .entry) ≡ partitionMarks x → Adds (now (j .entry)) n (after 9 gate (partitionGuards x t)) (now (j .exit)) r) ⌝ }
+    ensures { λ r. ⌜ ((x : Tx) → now (partitions .entry) ≡ partitionMarks x → Adds (now (j .entry)) n (after unloggedCheckFailed gate (partitionGuards x t)) (now (j .exit)) r) ⌝ }
 {
-    if gate < Gate::PARTITIONS {
+    if gate < Gate::UNLOGGED_CHECK_FAILED {
         return n;
     }
     blocks::push_partition_guards(partitions, t, j, n)
 }
 
 fn drop_txid(gate: usize, t: u64, j: &mut [u64; Journal::WORDS], n: usize) -> usize
-    ensures { λ r. ⌜ Adds (now (j .entry)) n (after 26 gate (putDrop t ∷ [])) (now (j .exit)) r ⌝ }
+    ensures { λ r. ⌜ Adds (now (j .entry)) n (after stampFailed gate (putDrop t ∷ [])) (now (j .exit)) r ⌝ }
 {
-    if gate < Gate::STAMP {
+    if gate < Gate::STAMP_FAILED {
         return n;
     }
     blocks::push_drop(t, j, n)
@@ -206,9 +159,9 @@ fn push_taken(p: Plan, s: Struck, gate: usize, j: &mut [u64; Journal::WORDS], n:
 {
     let a = take_stripes(&p.stripes, gate, p.txid, j, n);
     let b = take_partitions(&p.partitions, gate, p.txid, j, a);
-    let i = limit_at(gate, Gate::INSERT, s.inserted);
+    let i = limit_at(gate, Gate::INSERT_FAILED, s.inserted);
     let c = blocks::push_insertions(p.into, i, j, b);
-    let o = limit_at(gate, Gate::REMOVE, s.removed);
+    let o = limit_at(gate, Gate::REMOVE_FAILED, s.removed);
     blocks::push_removals(p.out, o, j, c)
 }
 
@@ -216,13 +169,13 @@ fn push_taken(p: Plan, s: Struck, gate: usize, j: &mut [u64; Journal::WORDS], n:
 fn push_passed(p: Plan, s: Struck, gate: usize, j: &mut [u64; Journal::WORDS], n: usize) -> usize
     ensures { λ r. ⌜ ((S : Store) (x : Tx) (logged : Bool) (plan : Schedule) → Planned S x logged plan p s → Adds (now (j .entry)) n (passed S x logged plan gate) (now (j .exit)) r) ⌝ }
 {
-    let w = limit_at(gate, Gate::PUBLISH, s.published);
+    let w = limit_at(gate, Gate::PUBLISH_FAILED, s.published);
     let at = p.at;
     let a = blocks::push_publication(at, p.count, p.txid, w, j, n);
-    let f = limit_at(gate, Gate::RECYCLE, s.recycled);
+    let f = limit_at(gate, Gate::RECYCLE_FAILED, s.recycled);
     let b = blocks::push_recycling(&p.recycled, f, j, a);
     let c = drop_txid(gate, p.txid, j, b);
-    let m = limit_at(gate, Gate::STAMP, s.stamped);
+    let m = limit_at(gate, Gate::STAMP_FAILED, s.stamped);
     blocks::push_stamping(&p.changed, p.txid, m, j, c)
 }
 
@@ -241,12 +194,12 @@ fn push_poisons(bad: bool, t: u64, gate: usize, j: &mut [u64; Journal::WORDS], n
     ensures { λ r. ⌜ Adds (now (j .entry)) n (poisonsOf bad t gate) (now (j .exit)) r ⌝ }
 {
     match gate {
-        Gate::CALLBACK => poison_unless(!bad, j, n),
-        Gate::REMOVE => blocks::push_poison(j, n),
-        Gate::STAMP => blocks::push_poison(j, n),
-        Gate::PUBLISH => blocks::push_doom(t, j, n),
-        Gate::RECYCLE => blocks::push_doom(t, j, n),
-        Gate::FINISH => blocks::push_doom(t, j, n),
+        Gate::CALLBACK_ENDED => poison_unless(!bad, j, n),
+        Gate::REMOVE_FAILED => blocks::push_poison(j, n),
+        Gate::STAMP_FAILED => blocks::push_poison(j, n),
+        Gate::PUBLISH_FAILED => blocks::push_doom(t, j, n),
+        Gate::RECYCLE_FAILED => blocks::push_doom(t, j, n),
+        Gate::FINISH_FAILED => blocks::push_doom(t, j, n),
         _ => n,
     }
 }
@@ -290,16 +243,16 @@ fn abort_or_poison(
 fn push_undoes(p: Plan, s: Struck, gate: usize, j: &mut [u64; Journal::WORDS], n: usize) -> usize
     ensures { λ r. ⌜ ((S : Store) (x : Tx) (logged : Bool) (plan : Schedule) → Planned S x logged plan p s → Adds (now (j .entry)) n (undoes S x logged plan gate) (now (j .exit)) r) ⌝ }
 {
-    if gate == Gate::INSERT {
+    if gate == Gate::INSERT_FAILED {
         return roll_back(p.into, s.inserted, s, false, j, n);
     }
-    if gate == Gate::CALLBACK {
+    if gate == Gate::CALLBACK_ENDED {
         return roll_back(p.into, Tx::WRITES, s, s.worse, j, n);
     }
     n
 }
 
-fn either(a: bool, b: bool) -> bool
+pub fn either(a: bool, b: bool) -> bool
     ensures { λ r. ⌜ r ≡ (a || b) ⌝ }
 {
     if a { true } else { b }
@@ -309,14 +262,14 @@ fn either(a: bool, b: bool) -> bool
 fn push_drops(p: Plan, s: Struck, gate: usize, j: &mut [u64; Journal::WORDS], n: usize) -> usize
     ensures { λ r. ⌜ ((S : Store) (x : Tx) (logged : Bool) (plan : Schedule) → Planned S x logged plan p s → Adds (now (j .entry)) n (drops S x logged plan gate) (now (j .exit)) r) ⌝ }
 {
-    if gate == Gate::CALLBACK {
+    if gate == Gate::CALLBACK_ENDED {
         let already = either(s.worse, s.rollback);
         return abort_or_poison(&p.own, p.txid, s.abort, already, j, n);
     }
-    if gate < Gate::PUBLISH {
+    if gate < Gate::PUBLISH_FAILED {
         return n;
     }
-    if Gate::RECYCLE < gate {
+    if Gate::RECYCLE_FAILED < gate {
         return n;
     }
     if s.finish {
@@ -329,24 +282,23 @@ fn push_drops(p: Plan, s: Struck, gate: usize, j: &mut [u64; Journal::WORDS], n:
 fn push_lets(p: Plan, gate: usize, j: &mut [u64; Journal::WORDS], n: usize) -> usize
     ensures { λ r. ⌜ ((S : Store) (x : Tx) (logged : Bool) (plan : Schedule) → p .stripes ≡ guardedMarks (changes S x) x → p .partitions ≡ partitionMarks x → fit S x ≡ true → Adds (now (j .entry)) n (lets S x logged plan gate) (now (j .exit)) r) ⌝ }
 {
-    if gate < Gate::STRIPES {
+    if gate < Gate::PARTITION_GUARDS_FAILED {
         return n;
     }
-    if gate < Gate::PARTITIONS {
+    if gate < Gate::UNLOGGED_CHECK_FAILED {
         return blocks::push_index_guards(&p.stripes, 0, j, n);
     }
     blocks::push_release(&p.stripes, &p.partitions, j, n)
 }
 
-// Whether a gate aborts at once.
+// Whether a gate aborts at once: a callback's does so later, after the rollback.
 fn aborts_at(gate: usize) -> bool
-    ensures { λ r. ⌜ r ≡ getD aborters gate false ⌝ }
+    ensures { λ r. ⌜ r ≡ abortsAt gate ⌝ }
 {
-    if gate < Gate::TESTED {
-        Gate::ABORTS[gate]
-    } else {
-        false
+    if gate == Gate::CALLBACK_ENDED {
+        return false;
     }
+    left_at(gate) == Gate::BY_ABORT
 }
 
 // The abort of the gates up to the tests.

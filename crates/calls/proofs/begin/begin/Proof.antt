@@ -1,7 +1,8 @@
 -- `begin` meets its contract: as its tests find it, and with the puts that it plans applied.
 use mathlib.Core.Path.{sym, _∙_}
 use borrow.Author.Tests.{not-true, not-false}
-use lib.Dec.{lit≤}
+use native.Mathlib.Omega.{arith}
+use Rattle.records.specs.Relations.{call-puts}
 use Rattle.journal.specs.Adds.{adds-all}
 use Rattle.journal.specs.Applied.{apply-held}
 use Rattle.fields.proofs.Lengths.{sized}
@@ -24,7 +25,7 @@ returns-2 c =
     let t = c .before .before .before .before .before .before .before in
     let s = t .before .before .before .before .before in
     begin-done (s .args .t1) _ (begin-why _ (sized (s .args .t1) (s .good .0)) _ _ (t .before .before .before .before .resting .ensures) (t .before .begin-refusal .ensures)) (sym (t .is-done .ensures) ∙ not-false _ (c .before .before .before .before .before .before .if1 .left))
-    (c .apply .ensures ∙ apply-held _ (adds-all (c .before .before .before .before .plan-begin .ensures) (lit≤ tt)))
+    (c .apply .ensures ∙ apply-held _ (adds-all (c .before .before .before .before .plan-begin .ensures) (omega (arith, call-puts))))
     (c .before .before .begun .ensures (sized (s .args .t1) (s .good .0) .active))
 
 pub begin-spec : {M : Type 1} → statement M

@@ -2,7 +2,7 @@
 use mathlib.Core.Path.{sym, _∙_}
 use borrow.Author.Tests.{not-true, not-false}
 use native.Mathlib.Omega.{arith}
-use lib.Dec.{lit≤}
+use Rattle.records.specs.Relations.{slots-placed, call-puts}
 use Rattle.journal.specs.Adds.{adds-all}
 use Rattle.journal.specs.Applied.{apply-held}
 use Rattle.fields.proofs.Lengths.{sized}
@@ -27,7 +27,7 @@ returns-2 c =
     let s = h .before .before .before in
     let done = (sym (t .is-done .ensures) ∙ not-false _ (c .before .before .before .before .if1 .left)) in
     let placed = lock-placed (s .args .t1) (s .args .x) _ (sized (s .args .t1) (s .good .0)) (h .head-of .ensures) (l .locked-by-another .ensures) (t .before .before .before .admitted .ensures) (t .before .before .healthy .ensures) (t .before .lock-refusal .ensures) done in
-    lock-done (s .args .t1) (s .args .x) _ (sized (s .args .t1) (s .good .0)) (h .head-of .ensures) (l .locked-by-another .ensures) (t .before .before .before .admitted .ensures) (t .before .before .healthy .ensures) (t .before .lock-refusal .ensures) done (c .apply .ensures ∙ apply-held _ (adds-all (c .before .before .plan-lock .ensures (omega arith)) (lit≤ tt)))
+    lock-done (s .args .t1) (s .args .x) _ (sized (s .args .t1) (s .good .0)) (h .head-of .ensures) (l .locked-by-another .ensures) (t .before .before .before .admitted .ensures) (t .before .before .healthy .ensures) (t .before .lock-refusal .ensures) done (c .apply .ensures ∙ apply-held _ (adds-all (c .before .before .plan-lock .ensures (omega (arith, slots-placed))) (omega (arith, call-puts))))
 
 pub row-lock-spec : {M : Type 1} → statement M
 row-lock-spec =

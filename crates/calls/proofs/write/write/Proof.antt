@@ -2,6 +2,7 @@
 use mathlib.Core.Path.{sym, _∙_}
 use borrow.Author.Tests.{not-true, not-false}
 use native.Mathlib.Omega.{arith}
+use Rattle.records.specs.Relations.{slots-placed}
 use Rattle.journal.specs.Adds.{adds-all}
 use Rattle.journal.specs.Applied.{apply-held}
 use Rattle.fields.proofs.Lengths.{sized}
@@ -27,7 +28,7 @@ returns-2 c =
     write-done (s .args .t1) (s .args .x) _ (s .args .v) (sized (s .args .t1) (s .good .0)) (f .lowest-free .ensures) (t .before .before .before .admitted .ensures) (t .before .before .healthy .ensures) (t .before .write-refusal .ensures)
     (sym (t .is-done .ensures) ∙ not-false _ (c .before .before .before .before .before .before .before .before .before .before .if1 .left))
     (c .before .before .before .before .before .base-of .ensures)
-    (c .apply .ensures ∙ apply-held _ (adds-all (c .before .before .before .plan-write .ensures (omega arith)) few))
+    (c .apply .ensures ∙ apply-held _ (adds-all (c .before .before .before .plan-write .ensures (omega (arith, slots-placed))) few))
     (c .before .before .with-write .ensures)
 
 pub write-spec : {M : Type 1} → statement M

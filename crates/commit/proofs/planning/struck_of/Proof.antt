@@ -5,10 +5,10 @@ use Rattle.commit.proofs.planning.struck_of.Statement.{statement}
 use Rattle.commit.proofs.planning.struck_of.Tie as tie
 
 returns : tie.Need-returns
-returns c = λ S x logged e. struck-is S x logged _ (c .before .before .before .before .before .before .before .before .before .struck-count .ensures) (c .before .before .before .before .before .before .before .before .struck-count2 .ensures) (c .before .before .before .before .before .before .before .struck-count3 .ensures) (c .before .before .before .before .before .before .struck-count4 .ensures) (c .before .before .before .before .before .struck-count5 .ensures) (c .before .before .before .before .struck-count6 .ensures) (c .before .before .before .strikes .ensures) (c .before .before .strikes2 .ensures) (c .before .strikes3 .ensures) (c .worse .ensures) e
+returns c = λ S x logged plan is p. rw (c .before .before .before .either .ensures) (struck-is S x logged plan is p)
 
 pub struck-of-spec : {M : Type 1} → statement M
 struck-of-spec =
-    tie.close (tie.spec (λ c κs. search needs) (λ c κs. search needs) (λ c κs. search needs) (λ c κs. search needs) (λ c κs. search needs)
-    (λ c κs. search needs) (λ c κs. search needs) (λ c κs. search needs) (λ c κs. search needs) (λ c κs. search needs) (λ c. search needs)
+    tie.close (tie.spec (λ c. search needs) (λ c. search needs) (λ c. search needs) (λ c. search needs) (λ c. search needs) (λ c. search needs)
+    (λ c. search needs) (λ c. search needs) (λ c κs. search needs) (λ c. search needs) (λ c. search needs) (λ c. search needs) (λ c. search needs)
     (λ c. search needs) (λ c. search needs) (λ c. search needs) (λ c. search needs) (λ c. search needs) returns)

@@ -2,9 +2,11 @@
 use Rattle.records.specs.Limits.{writeLimit}
 use Rattle.records.specs.Zero.{noWrite}
 use Rattle.rules.specs.Lists.{any}
+use Rattle.rules.specs.Types.{Store}
+use Rattle.rules.specs.Tests.{rowLockConflict}
 use Rattle.fields.specs.Lent.{atRows, atPlaces, flagsAtPlaces, atActive}
 use Rattle.fields.specs.First.{firstFrom, first-next, first-end, any-first, any-rest}
-use Rattle.commit_tests.specs.Conflicts.{headLocked, rowLockConflictOf}
+use Rattle.commit_tests.specs.Conflicts.{headLocked, row-lock-of}
 use Rattle.fields.proofs.Lengths.{writes-long}
 use mathlib.Core.Path.{_≡_, sym, ap, _∙_}
 use Prim.Native.Nat.{_-_, _≤_, min}
@@ -14,31 +16,31 @@ use Rattle.commit_tests.proofs.conflicts.has_row_lock_conflict.Statemen
 use Rattle.commit_tests.proofs.conflicts.has_row_lock_conflict.Tie as tie
 
 abbrev Inv-loop : tie.InvT-loop
-Inv-loop heads locked owner active x n i₀ i = (i ≤ n) × (n ≡ min (x .«write_count») writeLimit) × (any (headLocked (atRows heads) (flagsAtPlaces locked) (atPlaces owner) (atActive active) (x .txid .0)) (firstFrom (x .«write_count») (x .writes) i) ≡ rowLockConflictOf (atRows heads) (flagsAtPlaces locked) (atPlaces owner) (atActive active) x)
+Inv-loop heads locked owner active x n i₀ i = (i ≤ n) × (n ≡ min (x .«write_count») writeLimit) × ((S : Store) → S .heads ≡ atRows heads → S .locked ≡ flagsAtPlaces locked → S .owner ≡ atPlaces owner → S .active ≡ atActive active → any (headLocked (atRows heads) (flagsAtPlaces locked) (atPlaces owner) (atActive active) (x .txid .0)) (firstFrom (x .«write_count») (x .writes) i) ≡ rowLockConflict S x)
 
 abbrev μ-loop : tie.MeasureT-loop
 μ-loop heads locked owner active x n i₀ i = n - i
 
 loop-holds : tie.Need-loop-holds Inv-loop μ-loop
-unfolding rowLockConflictOf firstFrom
-loop-holds c = search needs
+unfolding firstFrom
+loop-holds c = (omega arith, omega arith, λ S h l o a. row-lock-of S _ h l o a)
 
 returns : tie.Need-returns Inv-loop μ-loop
 unfolding headLocked
 returns c = let x = c .before .before .before .before .before .before .before .before .args .t5 in
     let long = writes-long x (c .before .before .before .before .before .before .before .before .good .1 .1 .1 .1 .0) in
-    sym (any-first _ _ _ _ (first-next (x .«write_count») (x .writes) _ noWrite (omega arith)) (rw (← c .before .before .before .head-of .ensures, ← c .before .locked-by-another .ensures) (c .if1 .taken))) ∙ c .before .before .before .before .before .before .loop .inv .2
+    λ S h l o a. sym (any-first _ _ _ _ (first-next (x .«write_count») (x .writes) _ noWrite (omega arith)) (rw (← c .before .before .before .head-of .ensures, ← c .before .locked-by-another .ensures) (c .if1 .taken))) ∙ c .before .before .before .before .before .before .loop .inv .2 S h l o a
 
 loop-again : tie.Need-loop-again Inv-loop μ-loop
 unfolding headLocked
 loop-again c = let x = c .before .before .before .before .before .before .before .before .args .t5 in
     let long = writes-long x (c .before .before .before .before .before .before .before .before .good .1 .1 .1 .1 .0) in
-    (omega arith, omega arith, sym (any-rest _ _ _ _ (first-next (x .«write_count») (x .writes) _ noWrite (omega arith)) (rw (← c .before .before .before .head-of .ensures, ← c .before .locked-by-another .ensures) (c .if1 .left))) ∙ c .before .before .before .before .before .before .loop .inv .2)
+    (omega arith, omega arith, λ S h l o a. sym (any-rest _ _ _ _ (first-next (x .«write_count») (x .writes) _ noWrite (omega arith)) (rw (← c .before .before .before .head-of .ensures, ← c .before .locked-by-another .ensures) (c .if1 .left))) ∙ c .before .before .before .before .before .before .loop .inv .2 S h l o a)
 
 returns-2 : tie.Need-returns-2 Inv-loop μ-loop
 returns-2 c = let x = c .before .before .before .args .t5 in
     let long = writes-long x (c .before .before .before .good .1 .1 .1 .1 .0) in
-    ap (any _) (sym (first-end (x .«write_count») (x .writes) _ (omega arith))) ∙ c .before .loop .inv .2
+    λ S h l o a. ap (any _) (sym (first-end (x .«write_count») (x .writes) _ (omega arith))) ∙ c .before .loop .inv .2 S h l o a
 
 pub has-row-lock-conflict-spec : {M : Type 1} → statement M
 has-row-lock-conflict-spec =

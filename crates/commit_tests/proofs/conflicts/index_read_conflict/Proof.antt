@@ -3,6 +3,7 @@ use borrow.Author.Tests.{eq-eqb, ne-eqb}
 use Rattle.records.specs.Limits.{indexReadLimit}
 use Rattle.records.specs.Zero.{noIndexRead}
 use Rattle.rules.specs.Lists.{any}
+use Rattle.rules.specs.Types.{Store}
 use Rattle.rules.specs.Tests.{indexReadConflict}
 use Rattle.fields.specs.Lent.{atStripes}
 use Rattle.fields.specs.First.{firstFrom, first-next, first-end, any-first, any-rest}
@@ -16,34 +17,34 @@ use Rattle.commit_tests.proofs.conflicts.index_read_conflict.Statement.
 use Rattle.commit_tests.proofs.conflicts.index_read_conflict.Tie as tie
 
 abbrev Inv-loop : tie.InvT-loop
-Inv-loop stamps x n i₀ i = (i ≤ n) × (n ≡ min (x .«index_read_count») indexReadLimit) × (any (stampMoved (atStripes stamps)) (firstFrom (x .«index_read_count») (x .«index_reads») i) ≡ indexReadConflict (atStripes stamps) x)
+Inv-loop stamps x n i₀ i = (i ≤ n) × (n ≡ min (x .«index_read_count») indexReadLimit) × ((S : Store) → S .stamps ≡ atStripes stamps → any (stampMoved (atStripes stamps)) (firstFrom (x .«index_read_count») (x .«index_reads») i) ≡ indexReadConflict S x)
 
 abbrev μ-loop : tie.MeasureT-loop
 μ-loop stamps x n i₀ i = n - i
 
 returns : tie.Need-returns Inv-loop μ-loop
-returns c = index-conflict-set _ _ (c .if1 .taken)
+returns c = λ S s. index-conflict-set S _ (c .if1 .taken)
 
 loop-holds : tie.Need-loop-holds Inv-loop μ-loop
 unfolding firstFrom
-loop-holds c = (omega arith, omega arith, index-read-of _ _ (c .before .if1 .left))
+loop-holds c = (omega arith, omega arith, λ S s. index-read-of S _ (c .before .if1 .left) s)
 
 returns-2 : tie.Need-returns-2 Inv-loop μ-loop
 unfolding stampMoved
 returns-2 c = let x = c .before .before .before .before .before .before .before .before .before .args .t2 in
     let long = index-reads-long x (c .before .before .before .before .before .before .before .before .before .good .1 .0) in
-    sym (any-first _ _ _ _ (first-next (x .«index_read_count») (x .«index_reads») _ noIndexRead (omega arith)) (rw (← c .before .before .before .stamp-at .ensures, ne-eqb _ _ (c .if2 .taken)))) ∙ c .before .before .before .before .before .before .loop .inv .2
+    λ S s. sym (any-first _ _ _ _ (first-next (x .«index_read_count») (x .«index_reads») _ noIndexRead (omega arith)) (rw (← c .before .before .before .stamp-at .ensures, ne-eqb _ _ (c .if2 .taken)))) ∙ c .before .before .before .before .before .before .loop .inv .2 S s
 
 loop-again : tie.Need-loop-again Inv-loop μ-loop
 unfolding stampMoved
 loop-again c = let x = c .before .before .before .before .before .before .before .before .before .args .t2 in
     let long = index-reads-long x (c .before .before .before .before .before .before .before .before .before .good .1 .0) in
-    (omega arith, omega arith, sym (any-rest _ _ _ _ (first-next (x .«index_read_count») (x .«index_reads») _ noIndexRead (omega arith)) (rw (← c .before .before .before .stamp-at .ensures, eq-eqb _ _ (c .if2 .left)))) ∙ c .before .before .before .before .before .before .loop .inv .2)
+    (omega arith, omega arith, λ S s. sym (any-rest _ _ _ _ (first-next (x .«index_read_count») (x .«index_reads») _ noIndexRead (omega arith)) (rw (← c .before .before .before .stamp-at .ensures, eq-eqb _ _ (c .if2 .left)))) ∙ c .before .before .before .before .before .before .loop .inv .2 S s)
 
 returns-3 : tie.Need-returns-3 Inv-loop μ-loop
 returns-3 c = let x = c .before .before .before .before .args .t2 in
     let long = index-reads-long x (c .before .before .before .before .good .1 .0) in
-    ap (any _) (sym (first-end (x .«index_read_count») (x .«index_reads») _ (omega arith))) ∙ c .before .loop .inv .2
+    λ S s. ap (any _) (sym (first-end (x .«index_read_count») (x .«index_reads») _ (omega arith))) ∙ c .before .loop .inv .2 S s
 
 pub index-read-conflict-spec : {M : Type 1} → statement M
 index-read-conflict-spec =

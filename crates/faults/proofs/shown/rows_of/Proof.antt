@@ -1,14 +1,15 @@
 -- `rows_of` is safe and ends.
 use Prim.Native.Nat.{_-_, _≤_}
 use borrow.Author.Needs.{needs}
+use Rattle.records.specs.Limits.{rows}
 use Rattle.faults.proofs.shown.rows_of.Statement.{statement}
 use Rattle.faults.proofs.shown.rows_of.Tie as tie
 
 abbrev Inv-loop : tie.InvT-loop
-Inv-loop s rows₀ r₀ rows r = r ≤ 64
+Inv-loop s out₀ r₀ out r = r ≤ rows
 
 abbrev μ-loop : tie.MeasureT-loop
-μ-loop s rows₀ r₀ rows r = 64 - r
+μ-loop s out₀ r₀ out r = rows - r
 
 pub rows-of-spec : {M : Type 1} → statement M
 rows-of-spec =

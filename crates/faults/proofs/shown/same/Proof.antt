@@ -1,14 +1,15 @@
 -- `same` is safe and ends.
 use Prim.Native.Nat.{_-_, _≤_}
 use borrow.Author.Needs.{needs}
+use Rattle.records.specs.Limits.{rows}
 use Rattle.faults.proofs.shown.same.Statement.{statement}
 use Rattle.faults.proofs.shown.same.Tie as tie
 
 abbrev Inv-loop : tie.InvT-loop
-Inv-loop a b r₀ r = r ≤ 64
+Inv-loop a b r₀ r = r ≤ rows
 
 abbrev μ-loop : tie.MeasureT-loop
-μ-loop a b r₀ r = 64 - r
+μ-loop a b r₀ r = rows - r
 
 pub same-spec : {M : Type 1} → statement M
 same-spec =

@@ -5,7 +5,7 @@ use native.Mathlib.Omega.{arith}
 use borrow.Author.Needs.{needs}
 use lib.ListN.{length, drop, length-set}
 use Rattle.rules.specs.Script.{decimal}
-use Rattle.script.specs.Print.{inDecimal}
+use Rattle.script.specs.Print.{digits, inDecimal}
 use Rattle.script.specs.PrintLaws.{digits-none, digits-last, digits-more}
 use Rattle.script.proofs.print.put_number.Statement.{statement}
 use Rattle.script.proofs.print.put_number.Tie as tie
@@ -20,7 +20,7 @@ abbrev μ-loop : tie.MeasureT-loop
 loop-holds : tie.Need-loop-holds Inv-loop μ-loop
 unfolding inDecimal
 loop-holds c =
-    let e : c .args .at - (c .args .at - 20) ≡ 20 = omega arith in
+    let e : c .args .at - (c .args .at - digits) ≡ digits = omega arith in
     (omega arith, omega arith, refl, rw e)
 
 same-length : tie.Need-same-length Inv-loop μ-loop
@@ -30,19 +30,19 @@ returns : tie.Need-returns Inv-loop μ-loop
 returns c =
     let a = c .before .before in
     let l = a .loop .out in
-    (omega arith, omega arith, sym (digits-last l (a .before .args .at - 20) (a .loop .k) (a .loop .left) (omega arith) (omega arith) (omega arith)) ∙ a .loop .inv .3)
+    (omega arith, omega arith, sym (digits-last l (a .before .args .at - digits) (a .loop .k) (a .loop .left) (omega arith) (omega arith) (omega arith)) ∙ a .loop .inv .3)
 
 loop-again : tie.Need-loop-again Inv-loop μ-loop
 loop-again c =
     let a = c .before .before in
     let l = a .loop .out in
-    (omega arith, omega arith, simp length-set (a .loop .inv .2), sym (digits-more l (a .before .args .at - 20) (a .loop .k) (a .loop .left) (omega arith) (omega arith) (omega arith)) ∙ a .loop .inv .3)
+    (omega arith, omega arith, simp length-set (a .loop .inv .2), sym (digits-more l (a .before .args .at - digits) (a .loop .k) (a .loop .left) (omega arith) (omega arith) (omega arith)) ∙ a .loop .inv .3)
 
 returns-2 : tie.Need-returns-2 Inv-loop μ-loop
 returns-2 c =
     let a = c .before in
     let l = a .loop .out in
-    (omega arith, omega arith, sym (digits-none l (a .before .args .at - 20) (a .loop .k) (a .loop .left) (omega arith)) ∙ a .loop .inv .3)
+    (omega arith, omega arith, sym (digits-none l (a .before .args .at - digits) (a .loop .k) (a .loop .left) (omega arith)) ∙ a .loop .inv .3)
 
 pub put-number-spec : {M : Type 1} → statement M
 put-number-spec =

@@ -4,7 +4,7 @@ use mathlib.Core.Bool.{false}
 use Prim.Native.Nat.{_≤_}
 use native.Mathlib.Omega.{arith}
 use lib.ListN.{length}
-use Rattle.rules.specs.Puts.{kLock}
+use Rattle.rules.specs.Puts.{lastKind}
 use Rattle.journal.specs.Journal.{narrow}
 use Rattle.journal.specs.Pushing.{Pushing, pushing-start, pushing-end}
 use Rattle.commit.specs.Plan.Pushes.{listedBack, back-none, back-end, back-clip, push-before}
@@ -14,7 +14,7 @@ use Rattle.commit.proofs.plan.pushes.push_back.Tie as tie
 
 abbrev Inv-loop : tie.InvT-loop
 Inv-loop codes from kind limit j₀ n k₀ left₀ i₀ j k left i =
-    (i ≤ length codes) × (kind ≤ kLock → narrow kind ≡ false → Pushing j₀ n (listedBack kind limit from codes) (listedBack kind left i codes) j k)
+    (i ≤ length codes) × (kind ≤ lastKind → narrow kind ≡ false → Pushing j₀ n (listedBack kind limit from codes) (listedBack kind left i codes) j k)
 
 abbrev μ-loop : tie.MeasureT-loop
 μ-loop codes from kind limit j₀ n k₀ left₀ i₀ j k left i = i

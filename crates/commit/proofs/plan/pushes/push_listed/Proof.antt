@@ -5,7 +5,7 @@ use Prim.Native.Nat.{_≤_, _-_}
 use native.Mathlib.Omega.{arith}
 use borrow.Author.Needs.{needs}
 use lib.ListN.{length}
-use Rattle.rules.specs.Puts.{kLock}
+use Rattle.rules.specs.Puts.{lastKind}
 use Rattle.journal.specs.Journal.{narrow}
 use Rattle.journal.specs.Pushing.{Pushing, pushing-start, pushing-end}
 use Rattle.commit.specs.Plan.Pushes.{listed, listed-none, listed-end, push-listed}
@@ -14,7 +14,7 @@ use Rattle.commit.proofs.plan.pushes.push_listed.Tie as tie
 
 abbrev Inv-loop : tie.InvT-loop
 Inv-loop codes kind limit j₀ n k₀ left₀ i₀ j k left i =
-    (i ≤ length codes) × (kind ≤ kLock → narrow kind ≡ false → Pushing j₀ n (listed kind limit 0 codes) (listed kind left i codes) j k)
+    (i ≤ length codes) × (kind ≤ lastKind → narrow kind ≡ false → Pushing j₀ n (listed kind limit 0 codes) (listed kind left i codes) j k)
 
 abbrev μ-loop : tie.MeasureT-loop
 μ-loop codes kind limit j₀ n k₀ left₀ i₀ j k left i = length codes - i

@@ -5,10 +5,10 @@ use native.Mathlib.Omega.{arith}
 use Rattle.records.specs.Limits.{places}
 use Rattle.fields.specs.Lent.{atPlaces}
 use Rattle.fields.specs.Marks.{markAll}
-use Rattle.commit.specs.Plan.Own.{noSlots, ownFrom, ownMarks, own-end, own-free, own-not, own-here}
+use Rattle.visibility.specs.OwnMarks.{noSlots, ownFrom, ownMarks, own-end, own-free, own-not, own-here}
 use borrow.Author.Needs.{needs}
-use Rattle.commit.proofs.plan.own.own_marks.Statement.{statement}
-use Rattle.commit.proofs.plan.own.own_marks.Tie as tie
+use Rattle.visibility.proofs.own_slots.own_marks.Statement.{statement}
+use Rattle.visibility.proofs.own_slots.own_marks.Tie as tie
 
 abbrev Inv-loop : tie.InvT-loop
 Inv-loop xmin seen t m₀ i₀ m i =
