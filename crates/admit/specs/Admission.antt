@@ -19,7 +19,8 @@ triedBy rests fits active = tries (refuse (not rests) (NotResting Open) ∷ refu
 unfoldable pub admitted : Store → Tx → Bool → Refusal
 admitted S x planned = triedBy (resting S) (fit S x && planned) (memb (x .txid .0) (activeTxids (S .active)))
 
-pub admitted-by : (S : Store) (x : Tx) (planned : Bool) {rests fits active : Bool} → rests ≡ resting S → fits ≡ fit S x → active ≡ memb (x .txid .0) (activeTxids (S .active))
+pub admitted-by : (S : Store) (x : Tx) (planned : Bool) {rests fits active : Bool} → rests ≡ resting S → fits ≡ fit S x
+    → active ≡ memb (x .txid .0) (activeTxids (S .active))
     → triedBy rests (fits && planned) active ≡ admitted S x planned
 unfolding admitted
 admitted-by S x planned p q r = rw (p, q, r)

@@ -6,14 +6,14 @@ ghost use Rattle.rules.specs.Numbers.{isDone};
 ghost use Rattle.rules.specs.Chains.{walk};
 ghost use Rattle.fields.specs.Lent.{atRows, atPlaces};
 ghost use Rattle.admit.specs.Admission.{triedBy, admitted};
+use fields::txids::is_active;
 use fitting::tx::fit_of;
-use resting::rest::resting_marked;
 use records::Fate;
 use records::Refusal;
 use records::SlotPtr;
 use records::Store;
 use records::Tx;
-use fields::txids::is_active;
+use resting::rest::resting_marked;
 
 // Nothing was refused.
 pub fn is_done(why: Refusal) -> bool

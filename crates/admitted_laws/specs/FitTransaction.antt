@@ -66,7 +66,8 @@ counts-say : (x : Tx) → (countsFit x ≡ true) ↔ Counts x
 unfolding countsFit
 counts-say x =
     more _ _ (at-most _ _) (more _ _ (at-most _ _) (more _ _ (at-most _ _) (more _ _ (at-most _ _) (more _ _ (at-most _ _)
-    (more _ _ (each-place noWrite _ NoWrite (λ w. both _ _ (same-number _ _) (both _ _ (same-number _ _) (same-number _ _))) (drop (x .«write_count») (x .writes)))
+    (more _ _
+    (each-place noWrite _ NoWrite (λ w. both _ _ (same-number _ _) (both _ _ (same-number _ _) (same-number _ _))) (drop (x .«write_count») (x .writes)))
     (more _ _ (each-place noRead _ NoRead (λ r. both _ _ (same-number _ _) (both _ _ (same-number _ _) (same-number _ _))) (drop (x .«read_count») (x .reads)))
     (more _ _ (each-place noIndexRead _ NoIndexRead (λ r. both _ _ (same-number _ _) (same-number _ _)) (drop (x .«index_read_count») (x .«index_reads»)))
     (more _ _ (each-place 0 isZero (λ t. t ≡ 0) (λ t. same-number t 0) (drop (x .«snapshot_count») (x .snapshot)))
@@ -107,7 +108,10 @@ shuffle true false false d = refl
 
 stripes-pairs : (l : List IndexRead) → stripesApart l ≡ (all (λ r. ltb (r .stripe) stripes) l && pairs (λ r q. not (eqb (q .stripe) (r .stripe))) l)
 stripes-pairs [] = refl
-stripes-pairs (r ∷ l) = rw (stripes-pairs l) (shuffle (ltb (r .stripe) stripes) (all (λ q. not (eqb (q .stripe) (r .stripe))) l) (all (λ q. ltb (q .stripe) stripes) l) (pairs (λ p q. not (eqb (q .stripe) (p .stripe))) l))
+stripes-pairs (r ∷ l) =
+    rw (stripes-pairs l)
+    (shuffle (ltb (r .stripe) stripes) (all (λ q. not (eqb (q .stripe) (r .stripe))) l) (all (λ q. ltb (q .stripe) stripes) l)
+    (pairs (λ p q. not (eqb (q .stripe) (p .stripe))) l))
 
 -- on no chain, by the walk's marks
 off-say : (S : Store) (L : ℕ → List ℕ) → Sized S → Mends S L → (p : ℕ) → (not (on (walk (S .heads) (S .next) .seen) p) ≡ true) ↔ Off (S .heads) L p
@@ -140,7 +144,10 @@ fit-says S L z M x =
     (more _ _ (counts-say x)
     (more _ _ (each-place noRead readFit ReadFits (λ r. more _ _ (below _ _) (more _ _ (at-most _ _) (last _ (at-most _ _)))) (readsOf x))
     (more _ _ (each-place noWrite _ (WriteFits S L (x .txid .0)) (λ w.
-    more _ _ (below _ _) (more _ _ (at-most _ _) (more _ _ (at-most _ _) (more _ _ (below _ _) (more _ _ (off-say S L z M (w .new .0)) (more _ _ (same-number _ _) (last _ (same-number _ _)))))))) (writesOf x))
+    more _ _ (below _ _)
+    (more _ _ (at-most _ _)
+    (more _ _ (at-most _ _) (more _ _ (below _ _) (more _ _ (off-say S L z M (w .new .0)) (more _ _ (same-number _ _) (last _ (same-number _ _))))))))
+    (writesOf x))
     (more _ _ (each-pair noWrite apart WritesApart (λ w v. both _ _ (differ _ _) (either _ _ (differ _ _) (same-number _ _))) (writesOf x))
     (more _ _ (both _ _ (each-place noIndexRead _ (λ r. r .stripe < stripes) (λ r. below _ _) (indexReadsOf x))
     (each-pair noIndexRead _ (λ r q. q .stripe ≢ r .stripe) (λ r q. differ _ _) (indexReadsOf x)))

@@ -107,7 +107,8 @@ form-slots S h =
 
 pub slots-form : (S : Store) → Sized S → SlotForm (S .xmin) (S .xmax) (S .next) (S .key) (S .has) (S .locked) (S .owner) → slotsInForm S ≡ true
 slots-form S z F =
-    let free : (p : ℕ) → nonzero (getD (S .xmin) p 0) ≡ false → Free (S .xmax) (S .next) (S .has) (S .locked) (S .owner) p = λ p n. F .free p (free-zero (getD (S .xmin) p 0) n) in
+    let free : (p : ℕ) → nonzero (getD (S .xmin) p 0) ≡ false → Free (S .xmax) (S .next) (S .has) (S .locked) (S .owner) p =
+    λ p n. F .free p (free-zero (getD (S .xmin) p 0) n) in
     parts-slots S (record {
       first = rw (F .first);
       xmax = at-blank nonzero isZero 0 0 zero-is (S .xmin) (S .xmax) (z .xmax ∙ sym (z .xmin)) (λ p n. free p n .unmarked);
@@ -134,10 +135,12 @@ active-form : (act : List ℕ) (clock : ℕ) → ActiveForm act clock → active
 unfolding activeInForm
 active-form act clock A =
     let l = activeTxids act in
-    cons-every _ _ (is-rising 1 l (A .climb)) (cons-every _ _ (mem-all (λ u. ltb u clock) l (λ t m. lt-ltb t clock (A .past t m))) (cons-every _ _ (from-zero (length l) act (A .after)) every-none))
+    cons-every _ _ (is-rising 1 l (A .climb))
+    (cons-every _ _ (mem-all (λ u. ltb u clock) l (λ t m. lt-ltb t clock (A .past t m))) (cons-every _ _ (from-zero (length l) act (A .after)) every-none))
 
 -- the marks of the walk, and the chains
-module _ (heads xmin xmax next : List ℕ) (f : ℕ → Bool) (L : ℕ → List ℕ) (C : Chained heads next (walk heads next .seen) L) (same : length next ≡ length xmin) where
+module _ (heads xmin xmax next : List ℕ) (f : ℕ → Bool) (L : ℕ → List ℕ) (C : Chained heads next (walk heads next .seen) L)
+    (same : length next ≡ length xmin) where
   abbrev seen : List ℕ
   seen = walk heads next .seen
 
@@ -148,21 +151,34 @@ module _ (heads xmin xmax next : List ℕ) (f : ℕ → Bool) (L : ℕ → List 
       → all (offOk xmin xmax next f seen) (usedSlots xmin) ≡ true → Stands heads xmin xmax next f L
   form-stands led versions off = record {
     chains = C .stand;
-    led = λ r x lt m. ltb-true 0 (getD xmin x 0) (each-or isZero nonzero seen xmin 0 0 led x (marked-below r x lt m) (not-true (isZero (getD seen x 0)) (C .marked r x lt m)));
-    versions = λ r lt. chain-ok xmin xmax f (L r) (rw (chained-from heads next seen L C r lt) at (all-at (λ h. chainOk xmin xmax f (chainFrom places next h)) heads versions r 0 lt));
-    off = λ p u o. or-true (on seen p) (not (f (getD xmin p 0)) && (eqb (getD xmax p 0) 0 && leb (getD next p 0) slots)) (all-nonzero (offOk xmin xmax next f seen) xmin off p u)
+    led =
+        λ r x lt m. ltb-true 0 (getD xmin x 0)
+        (each-or isZero nonzero seen xmin 0 0 led x (marked-below r x lt m) (not-true (isZero (getD seen x 0)) (C .marked r x lt m)));
+    versions =
+        λ r lt. chain-ok xmin xmax f (L r)
+        (rw (chained-from heads next seen L C r lt) at (all-at (λ h. chainOk xmin xmax f (chainFrom places next h)) heads versions r 0 lt));
+    off =
+        λ p u o. or-true (on seen p) (not (f (getD xmin p 0)) && (eqb (getD xmax p 0) 0 && leb (getD next p 0) slots))
+        (all-nonzero (offOk xmin xmax next f seen) xmin off p u)
         (λ e. let g = C .found p e in clash (g .2) (o (g .0) (g .1)))
         (λ e. let a = and-true (not (f (getD xmin p 0))) (eqb (getD xmax p 0) 0 && leb (getD next p 0) slots) e in
         let b = and-true (eqb (getD xmax p 0) 0) (leb (getD next p 0) slots) (a .1) in
-        record { unfinished = not-true (f (getD xmin p 0)) (a .0); unmarked = eqb-true (getD xmax p 0) 0 (b .0); within = leb-true (getD next p 0) slots (b .1) });
+        record {
+          unfinished = not-true (f (getD xmin p 0)) (a .0);
+          unmarked = eqb-true (getD xmax p 0) 0 (b .0);
+          within = leb-true (getD next p 0) slots (b .1);
+        });
   }
 
   module _ (T : Stands heads xmin xmax next f L) where
     stands-led : length seen ≡ length xmin → eachOr isZero nonzero seen xmin ≡ true
-    stands-led e = or-each isZero nonzero seen xmin 0 0 (omega arith) (λ p lt n. let g = C .found p (rw n) in lt-ltb 0 (getD xmin p 0) (T .led (g .0) p (g .1) (g .2)))
+    stands-led e =
+        or-each isZero nonzero seen xmin 0 0 (omega arith) (λ p lt n. let g = C .found p (rw n) in lt-ltb 0 (getD xmin p 0) (T .led (g .0) p (g .1) (g .2)))
 
     stands-versions : all (λ h. chainOk xmin xmax f (chainFrom places next h)) heads ≡ true
-    stands-versions = at-all (λ h. chainOk xmin xmax f (chainFrom places next h)) heads 0 (λ r lt. rw (chained-from heads next seen L C r lt) (ok-chain xmin xmax f (L r) (T .versions r lt)))
+    stands-versions =
+        at-all (λ h. chainOk xmin xmax f (chainFrom places next h)) heads 0
+        (λ r lt. rw (chained-from heads next seen L C r lt) (ok-chain xmin xmax f (L r) (T .versions r lt)))
 
     stands-off : all (offOk xmin xmax next f seen) (usedSlots xmin) ≡ true
     stands-off = nonzero-all (offOk xmin xmax next f seen) xmin (λ p u. by (on seen p)
@@ -198,7 +214,9 @@ mends S z h =
             (λ e. ltb-true (getD (S .xmin) p 0) (S .clock) (all-at (λ t. ltb t (S .clock)) (S .xmin) (P .below) p 0 (ltb-true p (length (S .xmin)) e)))
             (λ e. rw (List·getD-eq-default (S .xmin) 0 (ltb-false p (length (S .xmin)) e)) (omega (arith, leb-true 1 (S .clock) (P .started))));
         doom = ltb-true (S .doomed) (S .clock) (P .doom);
-        stands = form-stands (S .heads) (S .xmin) (S .xmax) (S .next) (finished (S .active) (S .doomed)) (W .0) (W .1) (z .next ∙ sym (z .xmin)) (P .led) (P .versions) (P .off);
+        stands =
+            form-stands (S .heads) (S .xmin) (S .xmax) (S .next) (finished (S .active) (S .doomed)) (W .0) (W .1) (z .next ∙ sym (z .xmin)) (P .led)
+            (P .versions) (P .off);
       },
     )
 
@@ -214,7 +232,9 @@ mended S L z M =
       below = at-all (λ t. ltb t (S .clock)) (S .xmin) 0 (λ p lt. lt-ltb (getD (S .xmin) p 0) (S .clock) (M .below p));
       doom = lt-ltb (S .doomed) (S .clock) (M .doom);
       walked = W .0;
-      led = stands-led (S .heads) (S .xmin) (S .xmax) (S .next) f L (W .1) (z .next ∙ sym (z .xmin)) (M .stands) (marks-long (S .heads) (S .next) (z .next) (W .0) ∙ sym (z .xmin));
+      led =
+          stands-led (S .heads) (S .xmin) (S .xmax) (S .next) f L (W .1) (z .next ∙ sym (z .xmin)) (M .stands)
+          (marks-long (S .heads) (S .next) (z .next) (W .0) ∙ sym (z .xmin));
       versions = stands-versions (S .heads) (S .xmin) (S .xmax) (S .next) f L (W .1) (z .next ∙ sym (z .xmin)) (M .stands);
       off = stands-off (S .heads) (S .xmin) (S .xmax) (S .next) f L (W .1) (z .next ∙ sym (z .xmin)) (M .stands);
     })

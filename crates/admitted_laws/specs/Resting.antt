@@ -34,8 +34,10 @@ pub record Rests (S : Store) (L : ℕ → List ℕ) : Type 0 where
   pub stripes : (i : ℕ) → getD (S .«stripe_guards») i 0 ≡ 0
   pub partitions : (i : ℕ) → getD (S .«partition_guards») i 0 ≡ 0
   pub posted : PostingForm S
-  pub created : (r x : ℕ) → r < length (S .heads) → memb x (L r) ≡ true → finished (S .active) (S .doomed) (getD (S .xmin) x 0) ≡ false → getD (S .xmin) x 0 ≡ S .doomed
-  pub ended : (r x : ℕ) → r < length (S .heads) → memb x (L r) ≡ true → finished (S .active) (S .doomed) (getD (S .xmax) x 0) ≡ false → getD (S .xmax) x 0 ≡ S .doomed
+  pub created : (r x : ℕ) → r < length (S .heads) → memb x (L r) ≡ true → finished (S .active) (S .doomed) (getD (S .xmin) x 0) ≡ false
+      → getD (S .xmin) x 0 ≡ S .doomed
+  pub ended : (r x : ℕ) → r < length (S .heads) → memb x (L r) ≡ true → finished (S .active) (S .doomed) (getD (S .xmax) x 0) ≡ false
+      → getD (S .xmax) x 0 ≡ S .doomed
   pub undoomed : S .poisoned ≡ false → S .doomed ≡ 0
   pub exact : S .poisoned ≡ false → postingsOf S ≡ headPostings (S .key) (S .has) 0 (S .heads)
 
@@ -54,7 +56,10 @@ form-postings S h =
 postings-form : (S : Store) → PostingForm S → postingsInForm S ≡ true
 unfolding postingsInForm
 postings-form S P =
-    cons-every _ _ (le-leb (S .«posting_count») postingLimit (P .few)) (cons-every _ _ (is-rising 0 (postingsOf S) (P .climb)) (cons-every _ _ (mem-all (λ c. ltb c (posting keyEnd 0)) (postingsOf S) (λ c m. lt-ltb c (posting keyEnd 0) (P .keys c m))) (cons-every _ _ (from-zero (S .«posting_count») (S .postings) (P .after)) every-none)))
+    cons-every _ _ (le-leb (S .«posting_count») postingLimit (P .few))
+    (cons-every _ _ (is-rising 0 (postingsOf S) (P .climb))
+    (cons-every _ _ (mem-all (λ c. ltb c (posting keyEnd 0)) (postingsOf S) (λ c m. lt-ltb c (posting keyEnd 0) (P .keys c m)))
+    (cons-every _ _ (from-zero (S .«posting_count») (S .postings) (P .after)) every-none)))
 
 -- a txid that is finished, or is the doomed one
 either : (b : Bool) (v d : ℕ) → (b || eqb v d) ≡ true → b ≡ false → v ≡ d
@@ -73,9 +78,11 @@ rests S z h =
     let C = marks S L z (M .1) in
     let f = finished (S .active) (S .doomed) in
     let s = walk (S .heads) (S .next) .seen in
-    let at : (r x : ℕ) → r < length (S .heads) → memb x (L r) ≡ true → ((f (getD (S .xmin) x 0) || eqb (getD (S .xmin) x 0) (S .doomed)) ≡ true) × ((f (getD (S .xmax) x 0) || eqb (getD (S .xmax) x 0) (S .doomed)) ≡ true)
+    let at : (r x : ℕ) → r < length (S .heads) → memb x (L r) ≡ true
+    → ((f (getD (S .xmin) x 0) || eqb (getD (S .xmin) x 0) (S .doomed)) ≡ true) × ((f (getD (S .xmax) x 0) || eqb (getD (S .xmax) x 0) (S .doomed)) ≡ true)
     = λ r x lt m. and-true (f (getD (S .xmin) x 0) || eqb (getD (S .xmin) x 0) (S .doomed)) (f (getD (S .xmax) x 0) || eqb (getD (S .xmax) x 0) (S .doomed))
-    (or-true (not (on s x)) ((f (getD (S .xmin) x 0) || eqb (getD (S .xmin) x 0) (S .doomed)) && (f (getD (S .xmax) x 0) || eqb (getD (S .xmax) x 0) (S .doomed)))
+    (or-true (not (on s x))
+    ((f (getD (S .xmin) x 0) || eqb (getD (S .xmin) x 0) (S .doomed)) && (f (getD (S .xmax) x 0) || eqb (getD (S .xmax) x 0) (S .doomed)))
     (all-nonzero (restsAt (S .xmin) (S .xmax) f (S .doomed) s) (S .xmin) (P .rests) x (M .1 .stands .led r x lt m))
     (λ e. clash (C .marked r x lt m) (not-true (on s x) e)) (λ e. e)) in
     let well = settles-settled S (P .healthy) in (
@@ -110,8 +117,12 @@ sole-rests S L z M N =
     let s = walk (S .heads) (S .next) .seen in
     nonzero-all (restsAt (S .xmin) (S .xmax) f (S .doomed) s) (S .xmin) (λ p u. by (on s p)
     (λ e. let g = C .found p e in
-    or-right (not (on s p)) ((f (getD (S .xmin) p 0) || eqb (getD (S .xmin) p 0) (S .doomed)) && (f (getD (S .xmax) p 0) || eqb (getD (S .xmax) p 0) (S .doomed)))
-    (rw (or-doomed (f (getD (S .xmin) p 0)) (getD (S .xmin) p 0) (S .doomed) (N .created (g .0) p (g .1) (g .2)), or-doomed (f (getD (S .xmax) p 0)) (getD (S .xmax) p 0) (S .doomed) (N .ended (g .0) p (g .1) (g .2)))))
+    or-right (not (on s p))
+    ((f (getD (S .xmin) p 0) || eqb (getD (S .xmin) p 0) (S .doomed)) && (f (getD (S .xmax) p 0) || eqb (getD (S .xmax) p 0) (S .doomed)))
+    (rw (
+      or-doomed (f (getD (S .xmin) p 0)) (getD (S .xmin) p 0) (S .doomed) (N .created (g .0) p (g .1) (g .2)),
+      or-doomed (f (getD (S .xmax) p 0)) (getD (S .xmax) p 0) (S .doomed) (N .ended (g .0) p (g .1) (g .2)),
+    )))
     (λ e. rw e))
 
 -- and back

@@ -77,13 +77,15 @@ walk-sound heads next ln ok =
     )
 
 -- chains that stand apart are walked to the end, and marked
-pub walk-complete : (heads next : List ℕ) (L : ℕ → List ℕ) → length next ≡ places → Chains heads next L → (walk heads next .ok ≡ true) × Chained heads next (walk heads next .seen) L
+pub walk-complete : (heads next : List ℕ) (L : ℕ → List ℕ) → length next ≡ places → Chains heads next L
+    → (walk heads next .ok ≡ true) × Chained heads next (walk heads next .seen) L
 unfolding walk
 walk-complete heads next L ln C =
     let W = rows-complete next heads noMarks L ln none-long (omega (arith, zeros-le noMarks, none-long)) (C .chain) (C .apart) (λ r x lt m. none-on x) in
     let ok : walk heads next .ok ≡ true = ap (λ (w : Walk). w .ok) (W .1) in
     let K = walk-sound heads next ln ok in
-    let same : (r : ℕ) → r < length heads → K .0 r ≡ L r = λ r lt. chain-one next (getD heads r 0) (getD heads r 0) (K .0 r) (L r) refl (K .1 .stand .chain r lt) (C .chain r lt) in (
+    let same : (r : ℕ) → r < length heads → K .0 r ≡ L r =
+    λ r lt. chain-one next (getD heads r 0) (getD heads r 0) (K .0 r) (L r) refl (K .1 .stand .chain r lt) (C .chain r lt) in (
       ok,
       record {
         stand = C;
@@ -94,5 +96,6 @@ walk-complete heads next L ln C =
     )
 
 -- the definition by fuel computes each chain
-pub chained-from : (heads next seen : List ℕ) (L : ℕ → List ℕ) → Chained heads next seen L → (r : ℕ) → r < length heads → chainFrom places next (getD heads r 0) ≡ L r
+pub chained-from : (heads next seen : List ℕ) (L : ℕ → List ℕ) → Chained heads next seen L → (r : ℕ) → r < length heads
+    → chainFrom places next (getD heads r 0) ≡ L r
 chained-from heads next seen L C r lt = chain-from places next (getD heads r 0) (L r) (C .short r lt) (C .stand .chain r lt)

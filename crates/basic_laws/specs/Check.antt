@@ -18,7 +18,8 @@ Tail xmin xmax f v (x ∷ l) = (f (getD xmin x 0) ≡ true) × (getD xmax x 0 �
 -- a chain of a repairable store
 pub data Good (xmin xmax : List ℕ) (f : ℕ → Bool) : List ℕ → Type 0 where
   plain : {l : List ℕ} (v : ℕ) → (v ≡ 0) ⊎ (f v ≡ false) → Tail xmin xmax f v l → Good xmin xmax f l
-  ahead : {x : ℕ} {l : List ℕ} (v : ℕ) → f (getD xmin x 0) ≡ false → getD xmax x 0 ≡ 0 → (v ≡ 0) ⊎ (v ≡ getD xmin x 0) → Tail xmin xmax f v l → Good xmin xmax f (x ∷ l)
+  ahead : {x : ℕ} {l : List ℕ} (v : ℕ) → f (getD xmin x 0) ≡ false → getD xmax x 0 ≡ 0 → (v ≡ 0) ⊎ (v ≡ getD xmin x 0) → Tail xmin xmax f v l
+      → Good xmin xmax f (x ∷ l)
 
 -- the tests say so, and back
 pub tail-ok : (xmin xmax : List ℕ) (f : ℕ → Bool) (v : ℕ) (l : List ℕ) → tailOk xmin xmax f v l ≡ true → Tail xmin xmax f v l
@@ -40,15 +41,21 @@ chain-ok xmin xmax f (x ∷ l) h = at (f (getD xmin x 0)) refl h
     go e z [] h = ahead 0 e z (inl refl) tt
     go e z (y ∷ m) h =
         let a = and-true (eqb (getD xmax y 0) 0 || eqb (getD xmax y 0) (getD xmin x 0)) (tailOk xmin xmax f (getD xmax y 0) (y ∷ m)) h in
-        ahead (getD xmax y 0) e z (or-true (eqb (getD xmax y 0) 0) (eqb (getD xmax y 0) (getD xmin x 0)) (a .0) (λ k. inl (eqb-true (getD xmax y 0) 0 k)) (λ k. inr (eqb-true (getD xmax y 0) (getD xmin x 0) k)))
+        ahead (getD xmax y 0) e z
+        (or-true (eqb (getD xmax y 0) 0) (eqb (getD xmax y 0) (getD xmin x 0)) (a .0) (λ k. inl (eqb-true (getD xmax y 0) 0 k))
+        (λ k. inr (eqb-true (getD xmax y 0) (getD xmin x 0) k)))
         (tail-ok xmin xmax f (getD xmax y 0) (y ∷ m) (a .1))
 
     at : (b : Bool) → f (getD xmin x 0) ≡ b
-        → cond b ((eqb (getD xmax x 0) 0 || not (f (getD xmax x 0))) && tailOk xmin xmax f (getD xmax x 0) (x ∷ l)) (eqb (getD xmax x 0) 0 && nextOk xmin xmax f (getD xmin x 0) l) ≡ true
+        → cond b ((eqb (getD xmax x 0) 0 || not (f (getD xmax x 0))) && tailOk xmin xmax f (getD xmax x 0) (x ∷ l))
+        (eqb (getD xmax x 0) 0 && nextOk xmin xmax f (getD xmin x 0) l)
+        ≡ true
         → Good xmin xmax f (x ∷ l)
     at true e h =
         let a = and-true (eqb (getD xmax x 0) 0 || not (f (getD xmax x 0))) (tailOk xmin xmax f (getD xmax x 0) (x ∷ l)) h in
-        plain (getD xmax x 0) (or-true (eqb (getD xmax x 0) 0) (not (f (getD xmax x 0))) (a .0) (λ k. inl (eqb-true (getD xmax x 0) 0 k)) (λ k. inr (not-true (f (getD xmax x 0)) k)))
+        plain (getD xmax x 0)
+        (or-true (eqb (getD xmax x 0) 0) (not (f (getD xmax x 0))) (a .0) (λ k. inl (eqb-true (getD xmax x 0) 0 k))
+        (λ k. inr (not-true (f (getD xmax x 0)) k)))
         (tail-ok xmin xmax f (getD xmax x 0) (x ∷ l) (a .1))
     at false e h =
         let a = and-true (eqb (getD xmax x 0) 0) (nextOk xmin xmax f (getD xmin x 0) l) h in
@@ -67,5 +74,6 @@ ok-chain xmin xmax f _ (ahead {x = x} {l = l} v e z o t) = rw (e, eq-eqb (getD x
     go : (m : List ℕ) → Tail xmin xmax f v m → nextOk xmin xmax f (getD xmin x 0) m ≡ true
     go [] t = refl
     go (y ∷ m) t = and-both (eqb (getD xmax y 0) 0 || eqb (getD xmax y 0) (getD xmin x 0)) (tailOk xmin xmax f (getD xmax y 0) (y ∷ m))
-        (⊎-elim (λ k. rw (eq-eqb (getD xmax y 0) 0 (t .1 ∙ k))) (λ k. or-right (eqb (getD xmax y 0) 0) (eqb (getD xmax y 0) (getD xmin x 0)) (eq-eqb (getD xmax y 0) (getD xmin x 0) (t .1 ∙ k))) o)
+        (⊎-elim (λ k. rw (eq-eqb (getD xmax y 0) 0 (t .1 ∙ k)))
+        (λ k. or-right (eqb (getD xmax y 0) 0) (eqb (getD xmax y 0) (getD xmin x 0)) (eq-eqb (getD xmax y 0) (getD xmin x 0) (t .1 ∙ k))) o)
         (ok-tail xmin xmax f (getD xmax y 0) (y ∷ m) (t .0, refl, t .2))

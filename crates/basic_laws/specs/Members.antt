@@ -38,7 +38,8 @@ module _ {ℓ} {A : Type ℓ} where
       let r = those-those f g k l h in
       by (f x) (λ e. rw (h x e) (both (k x) r)) (λ e. out (g x) (those g l) e ∙ r ∙ sym (out (k x) (those k l) e))
     where
-      both : (b : Bool) → those f (those g l) ≡ those f (those k l) → those f (cond b (x ∷ those g l) (those g l)) ≡ those f (cond b (x ∷ those k l) (those k l))
+      both : (b : Bool) → those f (those g l) ≡ those f (those k l)
+          → those f (cond b (x ∷ those g l) (those g l)) ≡ those f (cond b (x ∷ those k l) (those k l))
       both true r = ap (λ (m : List A). cond (f x) (x ∷ m) m) r
       both false r = r
 

@@ -20,7 +20,8 @@ module _ {ℓ κ} {A : Type ℓ} {B : Type κ} (f : A → Bool) (g : B → Bool)
       (λ e. List·getD-eq-default m z (ltb-false p (length m) e))
 
   -- and back
-  pub at-blank : ((b : B) → b ≡ z → g b ≡ true) → (l : List A) (m : List B) → length m ≡ length l → ((p : ℕ) → f (getD l p a) ≡ false → getD m p z ≡ z) → eachOr f g l m ≡ true
+  pub at-blank : ((b : B) → b ≡ z → g b ≡ true) → (l : List A) (m : List B) → length m ≡ length l → ((p : ℕ) → f (getD l p a) ≡ false → getD m p z ≡ z)
+      → eachOr f g l m ≡ true
   at-blank is l m e h = or-each f g l m a z (omega arith) (λ p lt n. is (getD m p z) (h p n))
 
 -- an array that is all zero, and one that is so from a place on

@@ -136,13 +136,17 @@ front l L zero = l
 front l L (suc r) = L r
 
 -- a row's chain and the chains of the rest
-rows-front : (next : List ℕ) (h : ℕ) (hs seen m s l : List ℕ) (L : ℕ → List ℕ) → Walked next seen h m l → Rows next hs m s L → Rows next (h ∷ hs) seen s (front l L)
+rows-front : (next : List ℕ) (h : ℕ) (hs seen m s l : List ℕ) (L : ℕ → List ℕ) → Walked next seen h m l → Rows next hs m s L
+    → Rows next (h ∷ hs) seen s (front l L)
 rows-front next h hs seen m s l L w R = record {
   chain = λ r. elim r [ zero ↦ λ lt. w .chain | suc q ↦ λ lt. R .chain q (omega arith) ];
   fresh = λ r x. elim r [ zero ↦ λ lt e. w .fresh x e | suc q ↦ λ lt e. unseen x (R .fresh q x (omega arith) e) ];
   apart = λ r q x. elim r [
     | zero ↦ elim q [ zero ↦ λ lr lq er eq. refl | suc q ↦ λ lr lq er eq. clash (seen-l x er) (R .fresh q x (omega arith) eq) ]
-    | suc r ↦ elim q [ zero ↦ λ lr lq er eq. clash (seen-l x eq) (R .fresh r x (omega arith) er) | suc q ↦ λ lr lq er eq. ap suc (R .apart r q x (omega arith) (omega arith) er eq) ]
+    | suc r ↦ elim q [
+      | zero ↦ λ lr lq er eq. clash (seen-l x eq) (R .fresh r x (omega arith) er)
+      | suc q ↦ λ lr lq er eq. ap suc (R .apart r q x (omega arith) (omega arith) er eq)
+    ]
   ];
   marked = λ r x. elim r [ zero ↦ λ lt e. R .kept x (seen-l x e) | suc q ↦ λ lt e. R .marked q x (omega arith) e ];
   kept = λ x e. R .kept x (w .marks x ∙ or-right (memb x l) (on seen x) e);
@@ -199,7 +203,8 @@ pub rows-complete : (next heads seen : List ℕ) (L : ℕ → List ℕ) → leng
     → (s : List ℕ) × (walkRows next heads seen ≡ Ended s)
 rows-complete next [] seen L ln ls zs ch apart fr = (seen, rows-end next seen)
 rows-complete next (p ∷ hs) seen L ln ls zs ch apart fr =
-    let one = row-complete places next seen p (L zero) ln ls zs (ch zero (omega arith)) (chain-apart next p (L zero) (ch zero (omega arith))) (λ x m. fr zero x (omega arith) m) in
+    let one = row-complete places next seen p (L zero) ln ls zs (ch zero (omega arith)) (chain-apart next p (L zero) (ch zero (omega arith)))
+    (λ x m. fr zero x (omega arith) m) in
     let snd = row-sound places next seen p (one .0) ln ls (one .1) in
     let same : snd .0 ≡ L zero = chain-one next p p (snd .0) (L zero) refl (snd .1 .chain) (ch zero (omega arith)) in
     let rest = rows-complete next hs (one .0) (λ r. L (suc r)) ln (snd .1 .long ∙ ls) (omega (arith, snd .1 .size))

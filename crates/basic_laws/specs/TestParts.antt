@@ -30,11 +30,22 @@ pub slots-parts : (S : Store) → slotsInForm S ≡ true → SlotsInForm S
 unfolding slotsInForm
 slots-parts S h =
     let p = every-each _ h in
-    record { first = p .0; xmax = p .1 .0; next = p .1 .1 .0; has = p .1 .1 .1 .0; locked = p .1 .1 .1 .1 .0; owner = p .1 .1 .1 .1 .1 .0; key = p .1 .1 .1 .1 .1 .1 .0 }
+    record {
+      first = p .0;
+      xmax = p .1 .0;
+      next = p .1 .1 .0;
+      has = p .1 .1 .1 .0;
+      locked = p .1 .1 .1 .1 .0;
+      owner = p .1 .1 .1 .1 .1 .0;
+      key = p .1 .1 .1 .1 .1 .1 .0;
+    }
 
 pub parts-slots : (S : Store) → SlotsInForm S → slotsInForm S ≡ true
 unfolding slotsInForm
-parts-slots S P = cons-every _ _ (P .first) (cons-every _ _ (P .xmax) (cons-every _ _ (P .next) (cons-every _ _ (P .has) (cons-every _ _ (P .locked) (cons-every _ _ (P .owner) (cons-every _ _ (P .key) every-none))))))
+parts-slots S P =
+    cons-every _ _ (P .first)
+    (cons-every _ _ (P .xmax)
+    (cons-every _ _ (P .next) (cons-every _ _ (P .has) (cons-every _ _ (P .locked) (cons-every _ _ (P .owner) (cons-every _ _ (P .key) every-none))))))
 
 -- a repairable store
 pub record Repairable (S : Store) : Type 0 where
@@ -52,11 +63,26 @@ pub repairable-parts : (S : Store) → repairable S ≡ true → Repairable S
 unfolding repairable
 repairable-parts S h =
     let p = every-each _ h in
-    record { started = p .0; slots = p .1 .0; listed = p .1 .1 .0; below = p .1 .1 .1 .0; doom = p .1 .1 .1 .1 .0; walked = p .1 .1 .1 .1 .1 .0; led = p .1 .1 .1 .1 .1 .1 .0; versions = p .1 .1 .1 .1 .1 .1 .1 .0; off = p .1 .1 .1 .1 .1 .1 .1 .1 .0 }
+    record {
+      started = p .0;
+      slots = p .1 .0;
+      listed = p .1 .1 .0;
+      below = p .1 .1 .1 .0;
+      doom = p .1 .1 .1 .1 .0;
+      walked = p .1 .1 .1 .1 .1 .0;
+      led = p .1 .1 .1 .1 .1 .1 .0;
+      versions = p .1 .1 .1 .1 .1 .1 .1 .0;
+      off = p .1 .1 .1 .1 .1 .1 .1 .1 .0;
+    }
 
 pub parts-repairable : (S : Store) → Repairable S → repairable S ≡ true
 unfolding repairable
-parts-repairable S P = cons-every _ _ (P .started) (cons-every _ _ (P .slots) (cons-every _ _ (P .listed) (cons-every _ _ (P .below) (cons-every _ _ (P .doom) (cons-every _ _ (P .walked) (cons-every _ _ (P .led) (cons-every _ _ (P .versions) (cons-every _ _ (P .off) every-none))))))))
+parts-repairable S P =
+    cons-every _ _ (P .started)
+    (cons-every _ _ (P .slots)
+    (cons-every _ _ (P .listed)
+    (cons-every _ _ (P .below)
+    (cons-every _ _ (P .doom) (cons-every _ _ (P .walked) (cons-every _ _ (P .led) (cons-every _ _ (P .versions) (cons-every _ _ (P .off) every-none))))))))
 
 -- a resting store
 pub record Resting (S : Store) : Type 0 where
@@ -75,7 +101,10 @@ resting-parts S h =
 
 pub parts-resting : (S : Store) → Resting S → resting S ≡ true
 unfolding resting
-parts-resting S P = cons-every _ _ (P .mendable) (cons-every _ _ (P .stripes) (cons-every _ _ (P .partitions) (cons-every _ _ (P .posted) (cons-every _ _ (P .rests) (cons-every _ _ (P .healthy) every-none)))))
+parts-resting S P =
+    cons-every _ _ (P .mendable)
+    (cons-every _ _ (P .stripes)
+    (cons-every _ _ (P .partitions) (cons-every _ _ (P .posted) (cons-every _ _ (P .rests) (cons-every _ _ (P .healthy) every-none)))))
 
 -- a fit write
 pub record WriteFit (xmin next seen : List ℕ) (t : ℕ) (w : Write) : Type 0 where
@@ -90,10 +119,21 @@ pub record WriteFit (xmin next seen : List ℕ) (t : ℕ) (w : Write) : Type 0 w
 pub write-parts : (xmin next seen : List ℕ) (t : ℕ) (w : Write) → writeFit xmin next seen t w ≡ true → WriteFit xmin next seen t w
 write-parts xmin next seen t w h =
     let p = every-each _ h in
-    record { row = p .0; base = p .1 .0; new = p .1 .1 .0; taken = p .1 .1 .1 .0; off = p .1 .1 .1 .1 .0; mine = p .1 .1 .1 .1 .1 .0; over = p .1 .1 .1 .1 .1 .1 .0 }
+    record {
+      row = p .0;
+      base = p .1 .0;
+      new = p .1 .1 .0;
+      taken = p .1 .1 .1 .0;
+      off = p .1 .1 .1 .1 .0;
+      mine = p .1 .1 .1 .1 .1 .0;
+      over = p .1 .1 .1 .1 .1 .1 .0;
+    }
 
 pub parts-write : (xmin next seen : List ℕ) (t : ℕ) (w : Write) → WriteFit xmin next seen t w → writeFit xmin next seen t w ≡ true
-parts-write xmin next seen t w P = cons-every _ _ (P .row) (cons-every _ _ (P .base) (cons-every _ _ (P .new) (cons-every _ _ (P .taken) (cons-every _ _ (P .off) (cons-every _ _ (P .mine) (cons-every _ _ (P .over) every-none))))))
+parts-write xmin next seen t w P =
+    cons-every _ _ (P .row)
+    (cons-every _ _ (P .base)
+    (cons-every _ _ (P .new) (cons-every _ _ (P .taken) (cons-every _ _ (P .off) (cons-every _ _ (P .mine) (cons-every _ _ (P .over) every-none))))))
 
 -- a fit transaction
 pub record Fit (S : Store) (x : Tx) : Type 0 where
@@ -111,8 +151,24 @@ pub fit-parts : (S : Store) (x : Tx) → fit S x ≡ true → Fit S x
 unfolding fit
 fit-parts S x h =
     let p = every-each _ h in
-    record { counts = p .0; reads = p .1 .0; writes = p .1 .1 .0; apart = p .1 .1 .1 .0; stripes = p .1 .1 .1 .1 .0; savepoints = p .1 .1 .1 .1 .1 .0; within = p .1 .1 .1 .1 .1 .1 .0; snapshot = p .1 .1 .1 .1 .1 .1 .1 .0; present = p .1 .1 .1 .1 .1 .1 .1 .1 .0 }
+    record {
+      counts = p .0;
+      reads = p .1 .0;
+      writes = p .1 .1 .0;
+      apart = p .1 .1 .1 .0;
+      stripes = p .1 .1 .1 .1 .0;
+      savepoints = p .1 .1 .1 .1 .1 .0;
+      within = p .1 .1 .1 .1 .1 .1 .0;
+      snapshot = p .1 .1 .1 .1 .1 .1 .1 .0;
+      present = p .1 .1 .1 .1 .1 .1 .1 .1 .0;
+    }
 
 pub parts-fit : (S : Store) (x : Tx) → Fit S x → fit S x ≡ true
 unfolding fit
-parts-fit S x P = cons-every _ _ (P .counts) (cons-every _ _ (P .reads) (cons-every _ _ (P .writes) (cons-every _ _ (P .apart) (cons-every _ _ (P .stripes) (cons-every _ _ (P .savepoints) (cons-every _ _ (P .within) (cons-every _ _ (P .snapshot) (cons-every _ _ (P .present) every-none))))))))
+parts-fit S x P =
+    cons-every _ _ (P .counts)
+    (cons-every _ _ (P .reads)
+    (cons-every _ _ (P .writes)
+    (cons-every _ _ (P .apart)
+    (cons-every _ _ (P .stripes)
+    (cons-every _ _ (P .savepoints) (cons-every _ _ (P .within) (cons-every _ _ (P .snapshot) (cons-every _ _ (P .present) every-none))))))))

@@ -51,7 +51,8 @@ form-pad l clock le c p =
     }
 
 -- the xmax of a version on a chain is below the clock too
-module _ (xmin xmax : List ℕ) (f : ℕ → Bool) (clock : ℕ) (below : (x : ℕ) → getD xmin x 0 < clock) (unfinished : (v : ℕ) → f v ≡ false → v < clock) (some : 0 < clock) where
+module _ (xmin xmax : List ℕ) (f : ℕ → Bool) (clock : ℕ) (below : (x : ℕ) → getD xmin x 0 < clock)
+    (unfinished : (v : ℕ) → f v ≡ false → v < clock) (some : 0 < clock) where
   tail-below : (v : ℕ) (l : List ℕ) → v < clock → Tail xmin xmax f v l → (x : ℕ) → memb x l ≡ true → getD xmax x 0 < clock
   tail-below v [] lt t x m = clash {b = false} m refl
   tail-below v (y ∷ l) lt t x m = or-true (eqb x y) (memb x l) m

@@ -35,7 +35,21 @@ fresh-rests = refl
 -- and of the right sizes
 pub fresh-sized : Sized fresh
 unfolding emptyStore fresh
-fresh-sized = record { heads = refl; xmin = refl; xmax = refl; next = refl; key = refl; has = refl; locked = refl; owner = refl; postings = refl; «stripe_guards» = refl; «partition_guards» = refl; stamps = refl; active = refl }
+fresh-sized = record {
+  heads = refl;
+  xmin = refl;
+  xmax = refl;
+  next = refl;
+  key = refl;
+  has = refl;
+  locked = refl;
+  owner = refl;
+  postings = refl;
+  «stripe_guards» = refl;
+  «partition_guards» = refl;
+  stamps = refl;
+  active = refl;
+}
 
 -- an accepted call, or a refused one
 either : {A : Type 0} (n : ℕ) → (n ≡ 0 → A) → ((n ≡ 0 → ⊥) → A) → A

@@ -57,7 +57,8 @@ smallest : (l : List ℕ) (t : ℕ) → Rising 1 l → ((u : ℕ) → memb u l �
 smallest [] t r h = record { either = eq-eqb t t refl; least = λ u m. clash {b = false} m refl; within = omega arith }
 smallest (x ∷ l) t r h = record {
   either = rw (mem-here x l);
-  least = λ u m. or-true (eqb u x) (memb u l) m (λ e. omega (arith, eqb-true u x e)) (λ e. omega (arith, rising-from (suc x) l u (is-rising (suc x) l (r .1)) e));
+  least =
+      λ u m. or-true (eqb u x) (memb u l) m (λ e. omega (arith, eqb-true u x e)) (λ e. omega (arith, rising-from (suc x) l u (is-rising (suc x) l (r .1)) e));
   within = omega (arith, h x (mem-here x l));
 }
 
@@ -87,7 +88,8 @@ module _ (S : Store) (L : ℕ → List ℕ) (z : Sized S) (R : Rests S L) (few :
   -- the active list is in its form
   form : ActiveForm (entered S .active) (suc clock)
   form = form-pad (acts ++ clock ∷ []) (suc clock) short climbs
-      (λ t m. or-true (memb t acts) (eqb t clock) (sym (mem-more acts clock t) ∙ m) (λ k. omega (arith, R .mends .listed .past t k)) (λ k. omega (arith, eqb-true t clock k)))
+      (λ t m. or-true (memb t acts) (eqb t clock) (sym (mem-more acts clock t) ∙ m) (λ k. omega (arith, R .mends .listed .past t k))
+      (λ k. omega (arith, eqb-true t clock k)))
 
   -- a txid below the clock is as finished as before
   finished-near : (t : ℕ) → t < clock → finished (entered S .active) (S .doomed) t ≡ finished (S .active) (S .doomed) t
@@ -114,7 +116,15 @@ module _ (S : Store) (L : ℕ → List ℕ) (z : Sized S) (R : Rests S L) (few :
   begin-fits : fit (entered S) (begun S) ≡ true
   unfolding begun zeroTx onlyTxid countsFit
   begin-fits = parts-fit (entered S) (begun S) (record {
-    counts = cons-every _ _ refl (cons-every _ _ refl (cons-every _ _ refl (cons-every _ _ (le-leb (length acts) activeLimit (omega arith)) (cons-every _ _ refl (cons-every _ _ refl (cons-every _ _ refl (cons-every _ _ refl (cons-every _ _ (from-zero (length acts) (S .active) (R .mends .listed .after)) (cons-every _ _ refl every-none)))))))));
+    counts =
+        cons-every _ _ refl
+        (cons-every _ _ refl
+        (cons-every _ _ refl
+        (cons-every _ _ (le-leb (length acts) activeLimit (omega arith))
+        (cons-every _ _ refl
+        (cons-every _ _ refl
+        (cons-every _ _ refl
+        (cons-every _ _ refl (cons-every _ _ (from-zero (length acts) (S .active) (R .mends .listed .after)) (cons-every _ _ refl every-none)))))))));
     reads = refl;
     writes = refl;
     apart = refl;
@@ -181,7 +191,9 @@ module _ (S : Store) (z : Sized S) (h : numberOf (begin S .refusal) ≡ 0) where
         shaped = record { snapshot = z .active; writes = refl; reads = refl; «index_reads» = refl; savepoints = refl };
         rests = rested (entered S) (R .0) Z (begin-rests S (R .0) z (R .1) few);
         fits = begin-fits S (R .0) z (R .1) few;
-        active = rw (listed S (R .0) z (R .1) few, mem-more acts (S .clock) (S .clock)) (or-right (memb (S .clock) acts) (eqb (S .clock) (S .clock)) (eq-eqb (S .clock) (S .clock) refl));
+        active =
+            rw (listed S (R .0) z (R .1) few, mem-more acts (S .clock) (S .clock))
+            (or-right (memb (S .clock) acts) (eqb (S .clock) (S .clock)) (eq-eqb (S .clock) (S .clock) refl));
       })
 
 -- no txid is handed out twice: what a begin hands out is below what a later one does, with the clock not lowered in between

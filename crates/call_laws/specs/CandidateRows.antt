@@ -39,7 +39,7 @@ mem-rows : (r : ℕ) (ws : List Write) → memb r (map (λ w. w .row .0) ws) ≡
 mem-rows r [] = refl
 mem-rows r (w ∷ ws) = rw (mem-rows r ws, eqb-sym r (w .row .0))
 
--- every posting has a row below 64
+-- every posting has a row below the limit
 rows-below : (r : ℕ) (l : List ℕ) → memb r (map rowOf l) ≡ true → r < rows
 rows-below r [] m = clash {b = false} m refl
 rows-below r (c ∷ l) m = or-true (eqb r (rowOf c)) (memb r (map rowOf l)) m (λ e. omega (arith, eqb-true r (rowOf c) e)) (λ e. rows-below r l e)
@@ -71,17 +71,22 @@ module _ (S : Store) (x : Tx) (k : ℕ) where
       )
 
   module _ (f : fit S x ≡ true) where
-    -- the rows of fit writes are below 64
-    own-below : (r : ℕ) (ws : List Write) → all (writeFit (S .xmin) (S .next) (walk (S .heads) (S .next) .seen) (x .txid .0)) ws ≡ true → any (ofRow r) ws ≡ true → r < rows
+    -- the rows of fit writes are below the limit
+    own-below : (r : ℕ) (ws : List Write) → all (writeFit (S .xmin) (S .next) (walk (S .heads) (S .next) .seen) (x .txid .0)) ws ≡ true
+        → any (ofRow r) ws ≡ true → r < rows
     own-below r [] h m = clash {b = false} m refl
     own-below r (w ∷ ws) h m =
         let g = writeFit (S .xmin) (S .next) (walk (S .heads) (S .next) .seen) (x .txid .0) in
         let a = and-true (g w) (all g ws) h in
         or-true (ofRow r w) (any (ofRow r) ws) m
-        (λ e. omega (arith, eqb-true (w .row .0) r e, ltb-true (w .row .0) rows (write-parts (S .xmin) (S .next) (walk (S .heads) (S .next) .seen) (x .txid .0) w (a .0) .row)))
+        (λ e. omega (
+          arith,
+          eqb-true (w .row .0) r e,
+          ltb-true (w .row .0) rows (write-parts (S .xmin) (S .next) (walk (S .heads) (S .next) .seen) (x .txid .0) w (a .0) .row),
+        ))
         (λ e. own-below r ws (a .1) e)
 
-    -- so every candidate is below 64
+    -- so every candidate is below the limit
     pub candidate-below : (r : ℕ) → memb r (candidates S x k) ≡ true → r < rows
     unfolding candidates
     candidate-below r m =

@@ -15,14 +15,16 @@ use Rattle.rules.specs.Store.{activeTxids}
 use Rattle.rules.specs.Chains.{walk, on}
 use Rattle.rules.specs.Admitted.{resting}
 use Rattle.rules.specs.Numbers.{numberOf}
-use Rattle.rules.specs.Puts.{Put, kStripe, kPartition, kInsert, kRemove, kXmax, kFree, kDrop, kPoison, kEnter, kXmin, kNext, kKey, kLock, is, sets, raises, frees, enters, putPoison, apply, applyAll, abortPuts}
+use Rattle.rules.specs.Puts.{Put, kStripe, kPartition, kInsert, kRemove, kXmax, kFree, kDrop, kPoison, kEnter, kXmin}
+use Rattle.rules.specs.Puts.{kNext, kKey, kLock, is, sets, raises, frees, enters, putPoison, apply, applyAll, abortPuts}
 use Rattle.rules.specs.Calls.{abort}
 use Rattle.rules.specs.Changes.{changes, destinations, indexGuards, release, insertions}
 use Rattle.rules.specs.Commit.{End, fails, abortOrPoison}
 use Rattle.rules.specs.Answer.{uncut, commit}
 use Rattle.run_laws.specs.OnlyKinds.{only, only-both, only-if, kept, is-not}
 use Rattle.run_laws.specs.GuardPuts.{applyAll-append}
-use Rattle.run_laws.specs.Outcome.{Taken, neither, index, both, guardsTaken, afterInsert, worse, undoing, Outcome, done, stays, aborts, uninserted, uncalled, spoils, unstamped, outcome}
+use Rattle.run_laws.specs.Outcome.{Taken, neither, index, both, guardsTaken, afterInsert, worse, undoing, Outcome}
+use Rattle.run_laws.specs.Outcome.{done, stays, aborts, uninserted, uncalled, spoils, unstamped, outcome}
 use Rattle.statements.specs.Words.{Freed, abortedNumber, Admitted}
 use Rattle.run_laws.specs.FirstRows.{whole, stay-not, spoil-not}
 use Rattle.run_laws.specs.Kinds.{index-kind, taken-kinds, release-kinds, insertions-kind, rollback-kinds}
@@ -82,7 +84,16 @@ abbrev beside : List ℕ
 beside = kStripe ∷ kPartition ∷ kInsert ∷ kRemove ∷ kPoison ∷ []
 
 slots-kept : (ps : List Put) (T : Store) → only beside ps ≡ true → slotsIn (applyAll ps T) ≡ slotsIn T
-slots-kept ps T o = kept slotsIn beside (λ p U m. rw (is-not beside kFree refl p m, is-not beside kXmin refl p m, is-not beside kXmax refl p m, is-not beside kNext refl p m, is-not beside kKey refl p m, is-not beside kLock refl p m, is-not beside kDrop refl p m, is-not beside kEnter refl p m)) ps T o
+slots-kept ps T o = kept slotsIn beside (λ p U m. rw (
+  is-not beside kFree refl p m,
+  is-not beside kXmin refl p m,
+  is-not beside kXmax refl p m,
+  is-not beside kNext refl p m,
+  is-not beside kKey refl p m,
+  is-not beside kLock refl p m,
+  is-not beside kDrop refl p m,
+  is-not beside kEnter refl p m,
+)) ps T o
 
 -- what is known of the slots is known of every store with the same
 same-freed : (S : Store) (t : ℕ) (T U : Store) → slotsIn T ≡ slotsIn U → Freed S t U → Freed S t T
@@ -113,8 +124,10 @@ freed-among S t z r a ps qs o k =
 module _ (S : Store) (x : Tx) (logged : Bool) (plan : Schedule) where
   taken-beside : {taken back : List Put} → Taken S x logged plan taken back → only beside (taken ++ back) ≡ true
   taken-beside neither = refl
-  taken-beside index = only-both beside (indexGuards S x (x .txid .0)) (indexGuards S x 0) (index-kind beside refl refl S x (x .txid .0)) (index-kind beside refl refl S x 0)
-  taken-beside both = only-both beside (guardsTaken S x logged plan) (release S x) (taken-kinds beside refl refl S x logged plan) (release-kinds beside refl refl S x)
+  taken-beside index =
+      only-both beside (indexGuards S x (x .txid .0)) (indexGuards S x 0) (index-kind beside refl refl S x (x .txid .0)) (index-kind beside refl refl S x 0)
+  taken-beside both =
+      only-both beside (guardsTaken S x logged plan) (release S x) (taken-kinds beside refl refl S x logged plan) (release-kinds beside refl refl S x)
 
   -- what a failed callback stores before its abort
   called-beside : only beside (afterInsert S x logged plan ++ (cond (worse S x logged plan) (putPoison ∷ []) [] ++ undoing S x logged plan .puts)) ≡ true
@@ -123,7 +136,8 @@ module _ (S : Store) (x : Tx) (logged : Bool) (plan : Schedule) where
       let W = undoing S x logged plan .puts in
       only-both beside (afterInsert S x logged plan) (C ++ W)
       (only-both beside (guardsTaken S x logged plan) (insertions S x) (taken-kinds beside refl refl S x logged plan) (insertions-kind beside S x refl))
-      (only-both beside C W (only-if beside (worse S x logged plan) (putPoison ∷ []) [] refl refl) (rollback-kinds beside S x logged plan refl refl (worse S x logged plan) (destinations (changes S x))))
+      (only-both beside C W (only-if beside (worse S x logged plan) (putPoison ∷ []) [] refl refl)
+      (rollback-kinds beside S x logged plan refl refl (worse S x logged plan) (destinations (changes S x))))
 
   only-freed : (n : ℕ) (ps : List Put) (d : End) → Sized S → Admitted S x plan → fails S x logged plan 23 ≡ false
       → Outcome S x logged plan n ps d → abortedNumber (numberOf (d .refusal)) ≡ true → Freed S (x .txid .0) (applyAll ps S) × (d .tx ≡ onlyTxid (x .txid .0))
@@ -137,8 +151,15 @@ module _ (S : Store) (x : Tx) (logged : Bool) (plan : Schedule) where
   only-freed _ _ _ z ok f (uncalled p l k) h =
       let C = cond (worse S x logged plan) (putPoison ∷ []) [] in
       let W = undoing S x logged plan .puts in
-      rw (f, ← append-assoc C W (abortPuts S (x .txid .0) ++ release S x), ← append-assoc (afterInsert S x logged plan) (C ++ W) (abortPuts S (x .txid .0) ++ release S x))
-      (freed-among S (x .txid .0) z (ok .rests) (ok .active) (afterInsert S x logged plan ++ (C ++ W)) (release S x) called-beside (release-kinds beside refl refl S x), refl)
+      rw (
+        f,
+        ← append-assoc C W (abortPuts S (x .txid .0) ++ release S x),
+        ← append-assoc (afterInsert S x logged plan) (C ++ W) (abortPuts S (x .txid .0) ++ release S x),
+      ) (
+        freed-among S (x .txid .0) z (ok .rests) (ok .active) (afterInsert S x logged plan ++ (C ++ W)) (release S x) called-beside
+            (release-kinds beside refl refl S x),
+        refl,
+      )
   only-freed _ _ _ z ok f (spoils p k) h = clash h (spoil-not abortedNumber refl refl refl refl k _)
   only-freed _ _ _ z ok f (unstamped p k) h = clash h refl
 
@@ -151,7 +172,8 @@ module _ (S : Store) (x : Tx) (logged : Bool) (plan : Schedule) where
       rw u (only-freed _ _ _ z ok f (outcome S x logged plan) (rw u at h))
 
 -- the call's own abort
-pub abort-call : (S : Store) (x : Tx) → Sized S → numberOf (abort S x .refusal) ≡ 0 → Freed S (x .txid .0) (abort S x .store) × (abort S x .tx ≡ onlyTxid (x .txid .0))
+pub abort-call : (S : Store) (x : Tx) → Sized S → numberOf (abort S x .refusal) ≡ 0
+    → Freed S (x .txid .0) (abort S x .store) × (abort S x .tx ≡ onlyTxid (x .txid .0))
 abort-call S x z h =
     let l = abort-passed S x h in
     rw (abort-accepted S x h) (abort-frees S (x .txid .0) z (l .rests) (l .active), refl)

@@ -18,7 +18,8 @@ use Rattle.rules.specs.Transaction.{writesOf, finals}
 use Rattle.rules.specs.Chains.{walk, on}
 use Rattle.rules.specs.Fit.{fit, writeFit}
 use Rattle.rules.specs.Numbers.{numberOf}
-use Rattle.rules.specs.Puts.{Put, kStripe, kPartition, kInsert, kRemove, kXmax, kHead, kFree, kDrop, kStamp, kPoison, kDoom, kEnter, kClock, kXmin, kNext, is, putFree, putDrop, apply, applyAll, ownSlots, abortPuts}
+use Rattle.rules.specs.Puts.{Put, kStripe, kPartition, kInsert, kRemove, kXmax, kHead, kFree, kDrop, kStamp, kPoison, kDoom}
+use Rattle.rules.specs.Puts.{kEnter, kClock, kXmin, kNext, is, putFree, putDrop, apply, applyAll, ownSlots, abortPuts}
 use Rattle.rules.specs.Tests.{writeBaseConflict}
 use Rattle.rules.specs.Changes.{publishOne, publication, recycled, recycling}
 use Rattle.rules.specs.Commit.{runOf}
@@ -56,7 +57,8 @@ chain-on ns p [] x h m = clash {b = false} m refl
 chain-on ns p (y ∷ l) x h m = or-true (eqb x y) (memb x l) m
     (λ e. rw (eqb-true x y e) (by (eqb (getD ns y 0) 0)
     (λ k. or-left (eqb (getD ns y 0) 0) (memb (getD ns y 0) (y ∷ l)) k)
-    (λ k. or-right (eqb (getD ns y 0) 0) (memb (getD ns y 0) (y ∷ l)) (mem-there (getD ns y 0) y l (chain-head ns (getD ns y 0) l (h .3) (eqb-false (getD ns y 0) 0 k))))))
+    (λ k. or-right (eqb (getD ns y 0) 0) (memb (getD ns y 0) (y ∷ l))
+    (mem-there (getD ns y 0) y l (chain-head ns (getD ns y 0) l (h .3) (eqb-false (getD ns y 0) 0 k))))))
     (λ e. or-true (eqb (getD ns x 0) 0) (memb (getD ns x 0) l) (chain-on ns (getD ns y 0) l x (h .3) e)
     (λ k. or-left (eqb (getD ns x 0) 0) (memb (getD ns x 0) (y ∷ l)) k)
     (λ k. or-right (eqb (getD ns x 0) 0) (memb (getD ns x 0) (y ∷ l)) (mem-there (getD ns x 0) y l k)))
@@ -86,7 +88,8 @@ module _ (S : Store) (x : Tx) (L : ℕ → List ℕ) (z : Sized S) (R : Rests S 
       let h = getD (S .heads) r 0 in
       by (ltb r (length (S .heads)))
       (λ e. let lt = ltb-true r (length (S .heads)) e in
-      by (eqb h 0) (λ k. or-left (eqb h 0) (on seen h) k) (λ k. or-right (eqb h 0) (on seen h) (C .marked r h lt (chain-head (S .next) h (L r) (C .stand .chain r lt) (eqb-false h 0 k)))))
+      by (eqb h 0) (λ k. or-left (eqb h 0) (on seen h) k)
+      (λ k. or-right (eqb h 0) (on seen h) (C .marked r h lt (chain-head (S .next) h (L r) (C .stand .chain r lt) (eqb-false h 0 k)))))
       (λ e. rw (List·getD-eq-default (S .heads) 0 (ltb-false r (length (S .heads)) e)))
 
   next-rooted : (q : ℕ) → on seen q ≡ true → rooted (getD (S .next) q 0) ≡ true
@@ -218,7 +221,14 @@ module _ (S : Store) (x : Tx) (L : ℕ → List ℕ) (z : Sized S) (R : Rests S 
   step : (p : Put) (X : Store) → spares p ≡ true → BesideIn X → BesideIn (apply p X)
   step p X h B =
       or-true (memb (p .kind) aside) _ h
-      (λ m. rw (is-not aside kHead refl p m, is-not aside kFree refl p m, is-not aside kXmin refl p m, is-not aside kNext refl p m, is-not aside kDrop refl p m, is-not aside kEnter refl p m) B)
+      (λ m. rw (
+        is-not aside kHead refl p m,
+        is-not aside kFree refl p m,
+        is-not aside kXmin refl p m,
+        is-not aside kNext refl p m,
+        is-not aside kDrop refl p m,
+        is-not aside kEnter refl p m,
+      ) B)
       (λ h1. or-true (is p kFree && eqb (getD (S .xmin) (p .at) 0) t) _ h1
       (λ k. let a = and-true (is p kFree) (eqb (getD (S .xmin) (p .at) 0) t) k in
       rw (eqb-true (p .kind) kFree (a .0)) (frees-beside (X .heads) (X .xmin) (X .next) (X .active) B (p .at) (eqb-true (getD (S .xmin) (p .at) 0) t (a .1))))
@@ -274,12 +284,14 @@ module _ (S : Store) (x y : Tx) (logged : Bool) (plan : Schedule) (z : Sized S) 
       let Q = rests S z (ok .rests) in
       let L = Q .0 in
       let R = Q .1 in
-      let passes = run-all (spares S x L z R) (calm-spares S x L z R) S x logged plan (λ p. publication-spares S x L z R (ok .fits) (based S x logged plan z ok p))
+      let passes = run-all (spares S x L z R) (calm-spares S x L z R) S x logged plan
+      (λ p. publication-spares S x L z R (ok .fits) (based S x logged plan z ok p))
       (recycling-spares S x L z R) (abort-spares S x L z R) (rw (eq-eqb (x .txid .0) (x .txid .0) refl)) refl in
       let B = steps S x L z R ps S (all-take (spares S x L z R) n all-puts passes) (start S x L z R) in
       let w = sized-all ps S z in
       let W = mends T w (prefix S x logged plan z ok n .mends) in
-      let clock : T .clock ≡ S .clock = kept (λ (X : Store). X .clock) counted (λ p X m. rw (is-not counted kClock refl p m)) ps S (only-take counted n all-puts (run-counted S x logged plan)) in (
+      let clock : T .clock ≡ S .clock = kept (λ (X : Store). X .clock) counted (λ p X m. rw (is-not counted kClock refl p m)) ps S
+      (only-take counted n all-puts (run-counted S x logged plan)) in (
         stays-fit S T y (omega (arith, clock))
             (λ m u q. B .slot m (λ e. d (sym q ∙ e)))
             (λ m u q o. off S x L z R T B (W .0) (marks T (W .0) w (W .1)) m u (λ e. d (sym q ∙ e)) o)
@@ -307,7 +319,9 @@ commit-sized S x logged plan cut z = every-commit S x logged plan (λ a. Sized (
   where
     go : (c : Cut) → Sized (answer S x logged (runOf S x logged plan) c .store)
     go Uncut = sized-all (runOf S x logged plan .puts) S z
-    go (After n) = by (ltb n (length (runOf S x logged plan .puts))) (λ e. rw e (sized-all (take n (runOf S x logged plan .puts)) S z)) (λ e. rw e (sized-all (runOf S x logged plan .puts) S z))
+    go (After n) =
+        by (ltb n (length (runOf S x logged plan .puts))) (λ e. rw e (sized-all (take n (runOf S x logged plan .puts)) S z))
+        (λ e. rw e (sized-all (runOf S x logged plan .puts) S z))
 
 -- and unless it is cut, the next call of the other is taken
 pub commit-keeps-others : (S : Store) (x y : Tx) (logged : Bool) (plan : Schedule) (cut : Cut) → Keyed S → (y .txid .0 ≡ x .txid .0 → ⊥)
@@ -317,7 +331,9 @@ commit-keeps-others S x y logged plan cut k d h K =
     record {
       sized = commit-sized S x logged plan cut (K .sized);
       shaped = K .shaped;
-      rests = commit-rests S x logged plan (K .sized) k (K .rests) cut (λ n. not (eqb n 18)) refl (rw (ne-eqb (numberOf (commit S x logged plan cut .refusal)) 18 h));
+      rests =
+          commit-rests S x logged plan (K .sized) k (K .rests) cut (λ n. not (eqb n 18)) refl
+          (rw (ne-eqb (numberOf (commit S x logged plan cut .refusal)) 18 h));
       fits = g .0;
       active = g .1;
     }

@@ -45,8 +45,26 @@ pub counts-parts : (x : Tx) → countsFit x ≡ true → CountsFit x
 unfolding countsFit
 counts-parts x h =
     let p = every-each _ h in
-    record { writes = p .0; reads = p .1 .0; «index_reads» = p .1 .1 .0; snapshot = p .1 .1 .1 .0; savepoints = p .1 .1 .1 .1 .0; noWrites = p .1 .1 .1 .1 .1 .0; noReads = p .1 .1 .1 .1 .1 .1 .0; noIndexReads = p .1 .1 .1 .1 .1 .1 .1 .0; noTxids = p .1 .1 .1 .1 .1 .1 .1 .1 .0; noSavepoints = p .1 .1 .1 .1 .1 .1 .1 .1 .1 .0 }
+    record {
+      writes = p .0;
+      reads = p .1 .0;
+      «index_reads» = p .1 .1 .0;
+      snapshot = p .1 .1 .1 .0;
+      savepoints = p .1 .1 .1 .1 .0;
+      noWrites = p .1 .1 .1 .1 .1 .0;
+      noReads = p .1 .1 .1 .1 .1 .1 .0;
+      noIndexReads = p .1 .1 .1 .1 .1 .1 .1 .0;
+      noTxids = p .1 .1 .1 .1 .1 .1 .1 .1 .0;
+      noSavepoints = p .1 .1 .1 .1 .1 .1 .1 .1 .1 .0;
+    }
 
 pub parts-counts : (x : Tx) → CountsFit x → countsFit x ≡ true
 unfolding countsFit
-parts-counts x P = cons-every _ _ (P .writes) (cons-every _ _ (P .reads) (cons-every _ _ (P .«index_reads») (cons-every _ _ (P .snapshot) (cons-every _ _ (P .savepoints) (cons-every _ _ (P .noWrites) (cons-every _ _ (P .noReads) (cons-every _ _ (P .noIndexReads) (cons-every _ _ (P .noTxids) (cons-every _ _ (P .noSavepoints) every-none)))))))))
+parts-counts x P =
+    cons-every _ _ (P .writes)
+    (cons-every _ _ (P .reads)
+    (cons-every _ _ (P .«index_reads»)
+    (cons-every _ _ (P .snapshot)
+    (cons-every _ _ (P .savepoints)
+    (cons-every _ _ (P .noWrites)
+    (cons-every _ _ (P .noReads) (cons-every _ _ (P .noIndexReads) (cons-every _ _ (P .noTxids) (cons-every _ _ (P .noSavepoints) every-none)))))))))

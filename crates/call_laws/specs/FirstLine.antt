@@ -29,12 +29,16 @@ abbrev pub numbered : List Line → Bool
 numbered ls = all same ls && unique (numbersOf ls)
 
 -- (the first line, and the rest)
-numbered-cons : (l : Line) (ls : List Line) → numbered (l ∷ ls) ≡ true → (numberOf (l .says) ≡ l .number) × (memb (l .number) (numbersOf ls) ≡ false) × (numbered ls ≡ true)
+numbered-cons : (l : Line) (ls : List Line) → numbered (l ∷ ls) ≡ true
+    → (numberOf (l .says) ≡ l .number) × (memb (l .number) (numbersOf ls) ≡ false) × (numbered ls ≡ true)
 numbered-cons l ls h =
     let a = and-true (same l && all same ls) (not (memb (l .number) (numbersOf ls)) && unique (numbersOf ls)) h in
     let b = and-true (same l) (all same ls) (a .0) in
-    let c = and-true (not (memb (l .number) (numbersOf ls))) (unique (numbersOf ls)) (a .1) in
-    (eqb-true (numberOf (l .says)) (l .number) (b .0), not-true (memb (l .number) (numbersOf ls)) (c .0), and-both (all same ls) (unique (numbersOf ls)) (b .1) (c .1))
+    let c = and-true (not (memb (l .number) (numbersOf ls))) (unique (numbersOf ls)) (a .1) in (
+      eqb-true (numberOf (l .says)) (l .number) (b .0),
+      not-true (memb (l .number) (numbersOf ls)) (c .0),
+      and-both (all same ls) (unique (numbersOf ls)) (b .1) (c .1),
+    )
 
 -- no other number is given
 given : (ls : List Line) → numbered ls ≡ true → memb (numberOf (tries (triesOf ls))) (numbersOf ls) ≡ true

@@ -32,8 +32,10 @@ module _ (S : Store) (x : Tx) (L : ℕ → List ℕ) (z : Sized S) (R : Rests S 
   pub reading-fits : {l m : List ReadRecord} {v : Value} (r : ℕ) → r < rows → Reading S x r (L r) l v m → all readFit l ≡ true → all readFit m ≡ true
   reading-fits r lt (own w o) h = h
   reading-fits {l} r lt (found p e F k) h =
-      let b = chain-below (S .next) (getD (S .heads) r 0) (L r) p (R .mends .stands .chains .chain r (omega (arith, z .heads))) (rw (F .split) (mem-mid p (F .before) (F .after))) in
-      all-more readFit l (readOf r p (getD (S .xmin) p 0)) h (cons-every _ _ (lt-ltb r rows lt) (cons-every _ _ (le-leb 1 p (b .0)) (cons-every _ _ (le-leb p slots (omega (arith, b .1, z .next))) every-none)))
+      let b = chain-below (S .next) (getD (S .heads) r 0) (L r) p (R .mends .stands .chains .chain r (omega (arith, z .heads)))
+      (rw (F .split) (mem-mid p (F .before) (F .after))) in
+      all-more readFit l (readOf r p (getD (S .xmin) p 0)) h
+      (cons-every _ _ (lt-ltb r rows lt) (cons-every _ _ (le-leb 1 p (b .0)) (cons-every _ _ (le-leb p slots (omega (arith, b .1, z .next))) every-none)))
   reading-fits r lt (known p e F k) h = h
   reading-fits r lt (absent e s) h = h
 
@@ -43,7 +45,18 @@ module _ (S : Store) (x : Tx) (L : ℕ → List ℕ) (z : Sized S) (R : Rests S 
       let P = fit-parts S x k in
       let K = counts-parts x (P .counts) in
       parts-fit S (withReads l x) (record {
-        counts = parts-counts (withReads l x) (record { writes = K .writes; reads = le-leb (length l) readLimit le; «index_reads» = K .«index_reads»; snapshot = K .snapshot; savepoints = K .savepoints; noWrites = K .noWrites; noReads = drop-pad noRead blankRead refl readLimit l; noIndexReads = K .noIndexReads; noTxids = K .noTxids; noSavepoints = K .noSavepoints });
+        counts = parts-counts (withReads l x) (record {
+          writes = K .writes;
+          reads = le-leb (length l) readLimit le;
+          «index_reads» = K .«index_reads»;
+          snapshot = K .snapshot;
+          savepoints = K .savepoints;
+          noWrites = K .noWrites;
+          noReads = drop-pad noRead blankRead refl readLimit l;
+          noIndexReads = K .noIndexReads;
+          noTxids = K .noTxids;
+          noSavepoints = K .noSavepoints;
+        });
         reads = rw (take-pad readLimit noRead l le) h;
         writes = P .writes;
         apart = P .apart;
@@ -63,8 +76,16 @@ read-keeps S x r z y h =
     let l = recordRead S x r (readsOf x) in
     rw (read-accepted S x r h) (record {
       sized = z;
-      shaped = record { snapshot = y .snapshot; writes = y .writes; reads = pad-length readLimit noRead l; «index_reads» = y .«index_reads»; savepoints = y .savepoints };
+      shaped = record {
+        snapshot = y .snapshot;
+        writes = y .writes;
+        reads = pad-length readLimit noRead l;
+        «index_reads» = y .«index_reads»;
+        savepoints = y .savepoints;
+      };
       rests = k .rests;
-      fits = reads-fit S x (R .0) z (R .1) (k .fits) l (P .room) (reading-fits S x (R .0) z (R .1) r (P .row) (reading S x (R .0) z (R .1) (k .fits) r (readsOf x) (P .row)) (fit-parts S x (k .fits) .reads));
+      fits =
+          reads-fit S x (R .0) z (R .1) (k .fits) l (P .room)
+          (reading-fits S x (R .0) z (R .1) r (P .row) (reading S x (R .0) z (R .1) (k .fits) r (readsOf x) (P .row)) (fit-parts S x (k .fits) .reads));
       active = k .active;
     })

@@ -37,11 +37,13 @@ use Rattle.call_laws.specs.StampLaws.{stripes-few, stamps-apart}
 abbrev pub stampOf : Store → ℕ → ℕ
 stampOf S k = getD (S .stamps) (stripeOf k) 0
 
--- the rows that a lookup finds: rising, below 64, and exactly the candidates ("rows from postings of the key and own writes") whose read value is the key
+-- the rows that a lookup finds: rising, below the limit, and exactly the candidates ("rows from postings of the key and own writes") whose read value is the key
 pub record Finds (S : Store) (x : Tx) (k : ℕ) (L : ℕ → List ℕ) (found : List ℕ) : Type 0 where
   pub rise : rising 0 found ≡ true
   pub below : (r : ℕ) → memb r found ≡ true → r < rows
-  pub exactly : (r : ℕ) → r < rows → (memb r found ≡ true) ↔ (((memb (posting k r) (postingsOf S) || any (ofRow r) (writesOf x)) ≡ true) × ((m : List ReadRecord) × Reading S x r (L r) (readsOf x) (Key k) m))
+  pub exactly : (r : ℕ) → r < rows
+      → (memb r found ≡ true)
+      ↔ (((memb (posting k r) (postingsOf S) || any (ofRow r) (writesOf x)) ≡ true) × ((m : List ReadRecord) × Reading S x r (L r) (readsOf x) (Key k) m))
 
 -- the rows that it reads: the candidates, rising
 pub record Tried (S : Store) (x : Tx) (k : ℕ) (cs : List ℕ) : Type 0 where
@@ -86,7 +88,8 @@ module _ (S : Store) (x : Tx) (k : ℕ) (L : ℕ → List ℕ) (z : Sized S) (R 
 -- a test or a conflict
 raised : (b : Bool) (t : ℕ) (s : Bool) → ((b || (not (eqb t 0) && not s)) ≡ true) ↔ ((b ≡ true) ⊎ ((t ≡ 0 → ⊥) × (s ≡ false)))
 raised b t s = (
-  λ h. or-true b (not (eqb t 0) && not s) h (λ e. inl e) (λ e. let a = and-true (not (eqb t 0)) (not s) e in inr (eqb-false t 0 (not-true (eqb t 0) (a .0)), not-true s (a .1))),
+  λ h. or-true b (not (eqb t 0) && not s) h (λ e. inl e)
+      (λ e. let a = and-true (not (eqb t 0)) (not s) e in inr (eqb-false t 0 (not-true (eqb t 0) (a .0)), not-true s (a .1))),
   λ o. ⊎-elim (λ e. rw e) (λ (a : (t ≡ 0 → ⊥) × (s ≡ false)). or-right b (not (eqb t 0) && not s) (rw (ne-eqb t 0 (a .0), a .1))) o,
 )
 
@@ -141,10 +144,27 @@ module _ (S : Store) (x : Tx) (k : ℕ) (z : Sized S) (y : SizedTx x) (h : numbe
       let C = counts-parts (withReads l x) (P .counts) in
       rw (lookup-accepted S x k h) (record {
         sized = z;
-        shaped = record { snapshot = y .snapshot; writes = y .writes; reads = K .shaped .reads; «index_reads» = pad-length indexReadLimit noIndexRead e; savepoints = y .savepoints };
+        shaped = record {
+          snapshot = y .snapshot;
+          writes = y .writes;
+          reads = K .shaped .reads;
+          «index_reads» = pad-length indexReadLimit noIndexRead e;
+          savepoints = y .savepoints;
+        };
         rests = passed .first .rests;
         fits = parts-fit S (looked S x k) (record {
-          counts = parts-counts (looked S x k) (record { writes = C .writes; reads = C .reads; «index_reads» = le-leb (length e) indexReadLimit few; snapshot = C .snapshot; savepoints = C .savepoints; noWrites = C .noWrites; noReads = C .noReads; noIndexReads = drop-pad noIndexRead blankIndexRead refl indexReadLimit e; noTxids = C .noTxids; noSavepoints = C .noSavepoints });
+          counts = parts-counts (looked S x k) (record {
+            writes = C .writes;
+            reads = C .reads;
+            «index_reads» = le-leb (length e) indexReadLimit few;
+            snapshot = C .snapshot;
+            savepoints = C .savepoints;
+            noWrites = C .noWrites;
+            noReads = C .noReads;
+            noIndexReads = drop-pad noIndexRead blankIndexRead refl indexReadLimit e;
+            noTxids = C .noTxids;
+            noSavepoints = C .noSavepoints;
+          });
           reads = P .reads;
           writes = P .writes;
           apart = P .apart;

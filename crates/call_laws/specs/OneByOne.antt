@@ -40,7 +40,9 @@ AllRead S x (r ∷ rs) = (numberOf (read S x r .refusal) ≡ 0) × AllRead S (re
 -- a read leaves at least the reads there are
 longer : (S : Store) (x : Tx) (r : ℕ) (l : List ReadRecord) → length l ≤ length (recordRead S x r l)
 unfolding recordRead
-longer S x r l = go (eqb (readPtr S x r) 0 || (not (eqb (lastOwn r (writesOf x) .new .0) 0) || any (λ e. eqb (e .ptr .0) (readPtr S x r)) l)) (record { row = record { 0 = r }; ptr = record { 0 = readPtr S x r }; xmin = record { 0 = getD (S .xmin) (readPtr S x r) 0 } })
+longer S x r l =
+    go (eqb (readPtr S x r) 0 || (not (eqb (lastOwn r (writesOf x) .new .0) 0) || any (λ e. eqb (e .ptr .0) (readPtr S x r)) l))
+    (record { row = record { 0 = r }; ptr = record { 0 = readPtr S x r }; xmin = record { 0 = getD (S .xmin) (readPtr S x r) 0 } })
   where
     go : (b : Bool) (e : ReadRecord) → length l ≤ length (cond b l (l ++ e ∷ []))
     go true e = omega arith
@@ -77,7 +79,8 @@ as-laid-out S x y f =
 
 -- reads that fit in all are accepted each, and leave what lookup records
 module _ (S : Store) (z : Sized S) (healthy : S .poisoned ≡ false) where
-  pub one-by-one : (x : Tx) (rs : List ℕ) → SizedTx x → Admitted S x → ((r : ℕ) → memb r rs ≡ true → r < rows) → length (recordReads S x rs (readsOf x)) ≤ readLimit
+  pub one-by-one : (x : Tx) (rs : List ℕ) → SizedTx x → Admitted S x → ((r : ℕ) → memb r rs ≡ true → r < rows)
+      → length (recordReads S x rs (readsOf x)) ≤ readLimit
       → AllRead S x rs × (readAll S x rs ≡ withReads (recordReads S x rs (readsOf x)) x) × Keeps S (readAll S x rs)
   one-by-one x [] y k b le = (tt, as-laid-out S x y (k .fits), record { sized = z; shaped = y; rests = k .rests; fits = k .fits; active = k .active })
   one-by-one x (r ∷ rs) y k b le =

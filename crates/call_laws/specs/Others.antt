@@ -29,9 +29,16 @@ use Rattle.call_laws.specs.AbortLaws.{SameSlot, abort-aborts, abort-chai
 
 -- a transaction y of u, and a store T that has the chains of S, a clock that is not lower, and u's slots as they were
 other-keeps : (S T : Store) (y : Tx) (L : ℕ → List ℕ) → Rests S L → Sized S → Rests T L → Sized T → T .heads ≡ S .heads → S .clock ≤ T .clock
-    → ((n : ℕ) → 0 < getD (S .xmin) n 0 → getD (S .xmin) n 0 ≡ y .txid .0 → (getD (T .xmin) n 0 ≡ getD (S .xmin) n 0) × (getD (T .next) n 0 ≡ getD (S .next) n 0))
+    → ((n : ℕ) → 0 < getD (S .xmin) n 0 → getD (S .xmin) n 0 ≡ y .txid .0
+    → (getD (T .xmin) n 0 ≡ getD (S .xmin) n 0) × (getD (T .next) n 0 ≡ getD (S .next) n 0))
     → memb (y .txid .0) (activeTxids (T .active)) ≡ true → Keeps S y → Keeps T y
-other-keeps S T y L R z Q w heads le same a K = record { sized = w; shaped = K .shaped; rests = rested T L w Q; fits = stays-fit S T y le same (λ n u q e. on-same S T L R z Q w heads n ∙ e) (K .fits); active = a }
+other-keeps S T y L R z Q w heads le same a K = record {
+  sized = w;
+  shaped = K .shaped;
+  rests = rested T L w Q;
+  fits = stays-fit S T y le same (λ n u q e. on-same S T L R z Q w heads n ∙ e) (K .fits);
+  active = a;
+}
 
 -- begin
 pub begin-others : (S : Store) (y : Tx) → numberOf (begin S .refusal) ≡ 0 → Keeps S y → Keeps (begin S .store) y
@@ -40,7 +47,8 @@ begin-others S y h K =
     let R = rests S z (K .rests) in
     let acts = activeTxids (S .active) in
     let e : begin S .store ≡ applyAll (putEnter (S .clock) ∷ putClock (suc (S .clock)) ∷ []) S = ap (λ (a : Reply). a .store) (begin-accepted S h) in
-    other-keeps S (begin S .store) y (R .0) (R .1) z (begin-chains S z h (R .0) (R .1)) (begin-keeps S z h .sized) (rw e) (rw e (omega arith)) (λ n u q. rw e (refl, refl))
+    other-keeps S (begin S .store) y (R .0) (R .1) z (begin-chains S z h (R .0) (R .1)) (begin-keeps S z h .sized) (rw e) (rw e (omega arith))
+    (λ n u q. rw e (refl, refl))
     (rw (begin-begins S z h .active, mem-more acts (S .clock) (y .txid .0)) (or-left (memb (y .txid .0) acts) (eqb (y .txid .0) (S .clock)) (K .active))) K
 
 module _ (S : Store) (x y : Tx) where
@@ -50,7 +58,8 @@ module _ (S : Store) (x y : Tx) where
       let z = K .sized in
       let R = rests S z (K .rests) in
       let e : rowLock S x r .store ≡ applyAll (putLock (getD (S .heads) r 0) (x .txid .0) ∷ []) S = ap (λ (a : Reply). a .store) (rowLock-accepted S x r h) in
-      other-keeps S (rowLock S x r .store) y (R .0) (R .1) z (rowLock-chains S x r z h (R .0) (R .1)) (rowLock-keeps S x r z h s .sized) (rw e) (rw e (omega arith)) (λ n u q. rw e (refl, refl)) (rw e (K .active)) K
+      other-keeps S (rowLock S x r .store) y (R .0) (R .1) z (rowLock-chains S x r z h (R .0) (R .1)) (rowLock-keeps S x r z h s .sized) (rw e)
+      (rw e (omega arith)) (λ n u q. rw e (refl, refl)) (rw e (K .active)) K
 
   -- write
   pub write-others : (r : ℕ) (v : Value) → numberOf (write S x r v .refusal) ≡ 0 → SizedTx x → Keeps S y → Keeps (write S x r v .store) y
@@ -61,7 +70,8 @@ module _ (S : Store) (x y : Tx) where
       let p = write S x r v .slot .0 in
       let e = W .store in
       let ne : (n : ℕ) → 0 < getD (S .xmin) n 0 → n ≡ p → ⊥ = λ n u k. omega (arith, rw k at u, W .slot .free) in
-      other-keeps S (write S x r v .store) y (R .0) (R .1) z (write-chains S x r v z h s (R .0) (R .1)) (write-keeps S x r v z h s .sized) (rw e) (rw e (omega arith))
+      other-keeps S (write S x r v .store) y (R .0) (R .1) z (write-chains S x r v z h s (R .0) (R .1)) (write-keeps S x r v z h s .sized) (rw e)
+      (rw e (omega arith))
       (λ n u q. rw e (getD-set-other (S .xmin) p n (x .txid .0) 0 (ne n u), getD-set-other (S .next) p n (W .base) 0 (ne n u))) (rw e (K .active)) K
 
   -- abort, of another txid

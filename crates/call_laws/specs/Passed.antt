@@ -28,7 +28,12 @@ pub record BeginPassed (S : Store) : Type 0 where
 pub begin-passed : (S : Store) → numberOf (begin S .refusal) ≡ 0 → BeginPassed S
 begin-passed S h =
     let n = none-applies (begin S .refusal) (beginLines S) (begin-told S) h in
-    record { rests = not-false (resting S) (n .0); healthy = n .1 .0; few = leb-false activeLimit (length (activeTxids (S .active))) (n .1 .1 .0); early = leb-false clockEnd (S .clock) (n .1 .1 .1 .0) }
+    record {
+      rests = not-false (resting S) (n .0);
+      healthy = n .1 .0;
+      few = leb-false activeLimit (length (activeTxids (S .active))) (n .1 .1 .0);
+      early = leb-false clockEnd (S .clock) (n .1 .1 .1 .0);
+    }
 
 module _ (S : Store) (x : Tx) where
   -- every other call: not 1, 2, 3; that is all that abort asks
@@ -38,7 +43,8 @@ module _ (S : Store) (x : Tx) where
     pub active : memb (x .txid .0) (activeTxids (S .active)) ≡ true
 
   -- (from the three tests)
-  admits-of : {B : Type 0} → (not (resting S) ≡ false) × ((not (fit S x) ≡ false) × ((not (memb (x .txid .0) (activeTxids (S .active))) ≡ false) × B)) → Admitted
+  admits-of : {B : Type 0} → (not (resting S) ≡ false) × ((not (fit S x) ≡ false) × ((not (memb (x .txid .0) (activeTxids (S .active))) ≡ false) × B))
+      → Admitted
   admits-of n = record {
     rests = not-false (resting S) (n .0);
     fits = not-false (fit S x) (n .1 .0);
@@ -60,7 +66,12 @@ module _ (S : Store) (x : Tx) where
   read-passed r h =
       let n = none-applies (read S x r .refusal) (readLines S x r) (read-told S x r) h in
       let m = n .1 .1 .1 in
-      record { first = admits-of n; healthy = m .0; row = leb-false rows r (m .1 .0); room = ltb-false readLimit (length (recordRead S x r (readsOf x))) (m .1 .1 .0) }
+      record {
+        first = admits-of n;
+        healthy = m .0;
+        row = leb-false rows r (m .1 .0);
+        room = ltb-false readLimit (length (recordRead S x r (readsOf x))) (m .1 .1 .0);
+      }
 
   -- write: not 9, 23, 25, 26
   pub record WritePassed (r : ℕ) : Type 0 where
@@ -74,7 +85,13 @@ module _ (S : Store) (x : Tx) where
   write-passed r v h =
       let n = none-applies (write S x r v .refusal) (writeLines S x r) (write-told S x r v) h in
       let m = n .1 .1 .1 in
-      record { first = admits-of n; healthy = m .0; row = leb-false rows r (m .1 .0); room = leb-false writeLimit (x .«write_count») (m .1 .1 .0); free = eqb-false (lowestFree (S .xmin)) 0 (m .1 .1 .1 .0) }
+      record {
+        first = admits-of n;
+        healthy = m .0;
+        row = leb-false rows r (m .1 .0);
+        room = leb-false writeLimit (x .«write_count») (m .1 .1 .0);
+        free = eqb-false (lowestFree (S .xmin)) 0 (m .1 .1 .1 .0);
+      }
 
   -- lookup: not 9, 24
   pub record LookupPassed (k : ℕ) : Type 0 where
@@ -100,4 +117,10 @@ module _ (S : Store) (x : Tx) where
   rowLock-passed r h =
       let n = none-applies (rowLock S x r .refusal) (rowLockLines S x r) (rowLock-told S x r) h in
       let m = n .1 .1 .1 in
-      record { first = admits-of n; healthy = m .0; row = leb-false rows r (m .1 .0); void = m .1 .1 .0; some = eqb-false (getD (S .heads) r 0) 0 (m .1 .1 .1 .0) }
+      record {
+        first = admits-of n;
+        healthy = m .0;
+        row = leb-false rows r (m .1 .0);
+        void = m .1 .1 .0;
+        some = eqb-false (getD (S .heads) r 0) 0 (m .1 .1 .1 .0);
+      }

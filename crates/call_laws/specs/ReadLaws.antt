@@ -79,7 +79,13 @@ first-of f [] h = clash {b = false} h refl
 first-of f (x ∷ l) h = by (f x)
     (λ e. rw e (record { before = []; after = l; split = refl; none = refl; passes = e }))
     (λ e. let r = first-of f l (rw e at h) in
-    rw e (record { before = x ∷ r .before; after = r .after; split = ap (λ (m : List ℕ). x ∷ m) (r .split); none = or-neither (f x) (any f (r .before)) e (r .none); passes = r .passes }))
+    rw e (record {
+      before = x ∷ r .before;
+      after = r .after;
+      split = ap (λ (m : List ℕ). x ∷ m) (r .split);
+      none = or-neither (f x) (any f (r .before)) e (r .none);
+      passes = r .passes;
+    }))
 
 -- or none
 pub first-none : (f : ℕ → Bool) (l : List ℕ) → any f l ≡ false → firstOf f l ≡ 0
@@ -131,7 +137,8 @@ module _ (S : Store) (x : Tx) (L : ℕ → List ℕ) (z : Sized S) (R : Rests S 
   writes-taken = all-then (writeFit (S .xmin) (S .next) (walk (S .heads) (S .next) .seen) (x .txid .0)) taken
       (λ w h. let n = w .new .0 in
       by (eqb n 0)
-      (λ e. clash (rw (eqb-true n 0 e) at (write-parts (S .xmin) (S .next) (walk (S .heads) (S .next) .seen) (x .txid .0) w h .taken)) (rw (R .mends .slots .first)))
+      (λ e. clash (rw (eqb-true n 0 e) at (write-parts (S .xmin) (S .next) (walk (S .heads) (S .next) .seen) (x .txid .0) w h .taken))
+      (rw (R .mends .slots .first)))
       (λ e. lt-ltb 0 n (omega (arith, eqb-false n 0 e))))
       (writesOf x) (fit-parts S x f .writes)
 
@@ -153,13 +160,17 @@ module _ (S : Store) (x : Tx) (L : ℕ → List ℕ) (z : Sized S) (R : Rests S 
   -- else the first visible version is
   ptr-else : (r : ℕ) → r < rows → any (ofRow r) (writesOf x) ≡ false → readPtr S x r ≡ firstOf (visibleAt S x) (L r)
   unfolding readPtr visibleVersion
-  ptr-else r lt e = rw (last-none r (writesOf x) e, chained-from (S .heads) (S .next) (walk (S .heads) (S .next) .seen) L (marks S L z (R .mends)) r (omega (arith, z .heads)))
+  ptr-else r lt e = rw (
+    last-none r (writesOf x) e,
+    chained-from (S .heads) (S .next) (walk (S .heads) (S .next) .seen) L (marks S L z (R .mends)) r (omega (arith, z .heads)),
+  )
 
   -- a version found on a chain is no null pointer
   found-some : (r p : ℕ) → r < rows → FirstIn (visibleAt S x) (L r) p → eqb p 0 ≡ false
   found-some r p lt F =
       let in-rows : r < length (S .heads) = omega (arith, z .heads) in
-      let b = chain-below (S .next) (getD (S .heads) r 0) (L r) p (R .mends .stands .chains .chain r in-rows) (rw (F .split) (mem-mid p (F .before) (F .after))) in
+      let b = chain-below (S .next) (getD (S .heads) r 0) (L r) p (R .mends .stands .chains .chain r in-rows)
+      (rw (F .split) (mem-mid p (F .before) (F .after))) in
       ne-eqb p 0 (λ e. omega (arith, e, b .0))
 
   -- what read gives and records is that
@@ -187,7 +198,8 @@ module _ (S : Store) (x : Tx) (L : ℕ → List ℕ) (z : Sized S) (R : Rests S 
   ptr-first r p lt e F = ptr-else r lt e ∙ rw (F .split) (first-is (visibleAt S x) (F .before) p (F .after) (F .none) (F .passes))
 
   -- and nothing else is: a reading has one value and one list of reads
-  pub reading-one : (r : ℕ) (l m : List ReadRecord) (v : Value) → r < rows → Reading S x r (L r) l v m → (v ≡ valueAt (S .key) (S .has) (readPtr S x r)) × (m ≡ recordRead S x r l)
+  pub reading-one : (r : ℕ) (l m : List ReadRecord) (v : Value) → r < rows → Reading S x r (L r) l v m
+      → (v ≡ valueAt (S .key) (S .has) (readPtr S x r)) × (m ≡ recordRead S x r l)
   unfolding recordRead
   reading-one r l m v lt (own w o) =
       let i = last-is r (o .before) w (o .after) (rw (o .split) at writes-taken) (o .row) (o .none) in
@@ -196,7 +208,8 @@ module _ (S : Store) (x : Tx) (L : ℕ → List ℕ) (z : Sized S) (R : Rests S 
       (rw p, rw (p, e, nonzero-ne (w .new .0) (i .1)))
   reading-one r l m v lt (found p e F k) = let q = ptr-first r p lt e F in (rw q, rw (q, last-none r (writesOf x) e, found-some r p lt F, k))
   reading-one r l m v lt (known p e F k) = let q = ptr-first r p lt e F in (rw q, rw (q, last-none r (writesOf x) e, found-some r p lt F, k))
-  reading-one r l m v lt (absent e s) = (rw (ptr-else r lt e, first-none (visibleAt S x) (L r) s) (sym no-value), rw (ptr-else r lt e, first-none (visibleAt S x) (L r) s))
+  reading-one r l m v lt (absent e s) =
+      (rw (ptr-else r lt e, first-none (visibleAt S x) (L r) s) (sym no-value), rw (ptr-else r lt e, first-none (visibleAt S x) (L r) s))
 
 -- an accepted read gives that value and those reads, and changes nothing else
 pub read-gives : (S : Store) (x : Tx) (L : ℕ → List ℕ) → Sized S → Rests S L → (r : ℕ) → numberOf (read S x r .refusal) ≡ 0
@@ -223,7 +236,8 @@ absent-more y (q ∷ l) e m n =
     or-neither (eqb y (q .ptr .0)) (memb y (pointers (l ++ e ∷ []))) (o .0) (absent-more y l e (o .1) n)
 
 -- one read more, of a new pointer
-unique-more : (l : List ReadRecord) (e : ReadRecord) → any (λ q. eqb (q .ptr .0) (e .ptr .0)) l ≡ false → unique (pointers l) ≡ true → unique (pointers (l ++ e ∷ [])) ≡ true
+unique-more : (l : List ReadRecord) (e : ReadRecord) → any (λ q. eqb (q .ptr .0) (e .ptr .0)) l ≡ false → unique (pointers l) ≡ true
+    → unique (pointers (l ++ e ∷ [])) ≡ true
 unique-more [] e n u = refl
 unique-more (q ∷ l) e n u =
     let o = or-false (eqb (q .ptr .0) (e .ptr .0)) (any (λ d. eqb (d .ptr .0) (e .ptr .0)) l) n in
@@ -231,7 +245,8 @@ unique-more (q ∷ l) e n u =
     rw (absent-more (q .ptr .0) l e (not-true (memb (q .ptr .0) (pointers l)) (a .0)) (o .0)) (unique-more l e (o .1) (a .1))
 
 -- so a reading keeps them distinct
-pub once : {S : Store} {x : Tx} {r : ℕ} {c : List ℕ} {l m : List ReadRecord} {v : Value} → Reading S x r c l v m → unique (pointers l) ≡ true → unique (pointers m) ≡ true
+pub once : {S : Store} {x : Tx} {r : ℕ} {c : List ℕ} {l m : List ReadRecord} {v : Value} → Reading S x r c l v m → unique (pointers l) ≡ true
+    → unique (pointers m) ≡ true
 once (own w o) u = u
 once {S} {x} {r} {c} {l} (found p n f k) u = unique-more l (readOf r p (getD (S .xmin) p 0)) k u
 once (known p n f k) u = u

@@ -9,14 +9,16 @@ use borrow.Author.Tests.{eq-eqb, ne-eqb}
 use Rattle.records.specs.Limits.{rows, activeLimit, writeLimit, readLimit, clockEnd}
 use Rattle.records.specs.Zero.{onlyTxid, zeroTx}
 use Rattle.rules.specs.Lists.{memb, pad}
-use Rattle.rules.specs.Types.{Store, Tx, Value, Absent, Reply, Seen, Written, Found, Open, Closed, NotResting, Unfit, NotActive, FoundPoisoned, ActiveFull, ClockAtEnd, RowTooHigh, ReadsFull, WritesFull, SlotsFull, LockedByAnother, NoHead}
+use Rattle.rules.specs.Types.{Store, Tx, Value, Absent, Reply, Seen, Written, Found, Open, Closed, NotResting, Unfit, NotActive}
+use Rattle.rules.specs.Types.{FoundPoisoned, ActiveFull, ClockAtEnd, RowTooHigh, ReadsFull, WritesFull, SlotsFull, LockedByAnother, NoHead}
 use Rattle.rules.specs.Store.{valueAt, stripeOf, activeTxids}
 use Rattle.rules.specs.Transaction.{writesOf, readsOf, indexReadsOf, sees, withWrites, withReads, withIndexReads}
 use Rattle.rules.specs.Admitted.{resting}
 use Rattle.rules.specs.Fit.{fit}
 use Rattle.rules.specs.Numbers.{numberOf, tries}
 use Rattle.rules.specs.Puts.{putEnter, putClock, putLock, takeSlot, applyAll, abortPuts}
-use Rattle.rules.specs.Calls.{admits, begun, begin, readPtr, recordRead, read, lowestFree, baseOf, write, candidates, recordReads, recordStamp, matching, asRow, lookup, lockedByAnother, rowLock, abort}
+use Rattle.rules.specs.Calls.{admits, begun, begin, readPtr, recordRead, read, lowestFree, baseOf, write, candidates}
+use Rattle.rules.specs.Calls.{recordReads, recordStamp, matching, asRow, lookup, lockedByAnother, rowLock, abort}
 use Rattle.statements.specs.OtherNumbers.{firstLines, beginLines, readLines, writeLines, lookupLines, rowLockLines}
 use Rattle.statements.specs.Table.{line, Told}
 use Rattle.call_laws.specs.FirstLine.{triesOf, told, refusal-is, refused, accepted}
@@ -25,7 +27,8 @@ use Rattle.call_laws.specs.FirstLine.{triesOf, told, refusal-is, refused
 abbrev pub looked : Store → Tx → ℕ → Tx
 looked S x k =
     let t = getD (S .stamps) (stripeOf k) 0 in
-    withIndexReads (recordStamp (stripeOf k) t (indexReadsOf x)) (x .«index_conflict» || (not (eqb t 0) && not (sees x t))) (withReads (recordReads S x (candidates S x k) (readsOf x)) x)
+    withIndexReads (recordStamp (stripeOf k) t (indexReadsOf x)) (x .«index_conflict» || (not (eqb t 0) && not (sees x t)))
+    (withReads (recordReads S x (candidates S x k) (readsOf x)) x)
 
 -- begin: its refusal is that of the first line that applies
 begin-why : (S : Store) → begin S .refusal ≡ tries (triesOf (beginLines S))
@@ -60,7 +63,8 @@ module _ (S : Store) (x : Tx) where
   read-refused r h = rw (read-why r) (refused (λ (a : Seen). a .refusal) (tries (triesOf (readLines S x r))) _ _ refl refl h)
 
   pub read-accepted : (r : ℕ) → numberOf (read S x r .refusal) ≡ 0
-      → read S x r ≡ record { refusal = read S x r .refusal; value = valueAt (S .key) (S .has) (readPtr S x r); tx = withReads (recordRead S x r (readsOf x)) x }
+      → read S x r
+      ≡ record { refusal = read S x r .refusal; value = valueAt (S .key) (S .has) (readPtr S x r); tx = withReads (recordRead S x r (readsOf x)) x }
   unfolding read admits
   read-accepted r h = rw (read-why r) (accepted (λ (a : Seen). a .refusal) (tries (triesOf (readLines S x r))) _ _ refl refl h)
 
@@ -72,12 +76,18 @@ module _ (S : Store) (x : Tx) where
   pub write-told : (r : ℕ) (v : Value) → Told (write S x r v .refusal) [] (writeLines S x r)
   write-told r v = rw (write-why r v) (told (writeLines S x r) refl)
 
-  pub write-refused : (r : ℕ) (v : Value) → (numberOf (write S x r v .refusal) ≡ 0 → ⊥) → write S x r v ≡ record { refusal = write S x r v .refusal; slot = record { 0 = 0 }; store = S; tx = x }
+  pub write-refused : (r : ℕ) (v : Value) → (numberOf (write S x r v .refusal) ≡ 0 → ⊥)
+      → write S x r v ≡ record { refusal = write S x r v .refusal; slot = record { 0 = 0 }; store = S; tx = x }
   unfolding write admits
   write-refused r v h = rw (write-why r v) (refused (λ (a : Written). a .refusal) (tries (triesOf (writeLines S x r))) _ _ refl refl h)
 
   pub write-accepted : (r : ℕ) (v : Value) → numberOf (write S x r v .refusal) ≡ 0
-      → write S x r v ≡ record { refusal = write S x r v .refusal; slot = record { 0 = lowestFree (S .xmin) }; store = applyAll (takeSlot (lowestFree (S .xmin)) (x .txid .0) (baseOf S x r) v) S; tx = withWrites (writesOf x ++ record { row = record { 0 = r }; base = record { 0 = baseOf S x r }; new = record { 0 = lowestFree (S .xmin) } } ∷ []) x }
+      → write S x r v ≡ record {
+        refusal = write S x r v .refusal;
+        slot = record { 0 = lowestFree (S .xmin) };
+        store = applyAll (takeSlot (lowestFree (S .xmin)) (x .txid .0) (baseOf S x r) v) S;
+        tx = withWrites (writesOf x ++ record { row = record { 0 = r }; base = record { 0 = baseOf S x r }; new = record { 0 = lowestFree (S .xmin) } } ∷ []) x;
+      }
   unfolding write admits
   write-accepted r v h = rw (write-why r v) (accepted (λ (a : Written). a .refusal) (tries (triesOf (writeLines S x r))) _ _ refl refl h)
 
@@ -89,12 +99,18 @@ module _ (S : Store) (x : Tx) where
   pub lookup-told : (k : ℕ) → Told (lookup S x k .refusal) [] (lookupLines S x k)
   lookup-told k = rw (lookup-why k) (told (lookupLines S x k) refl)
 
-  pub lookup-refused : (k : ℕ) → (numberOf (lookup S x k .refusal) ≡ 0 → ⊥) → lookup S x k ≡ record { refusal = lookup S x k .refusal; rows = replicate rows (asRow 0); count = 0; tx = x }
+  pub lookup-refused : (k : ℕ) → (numberOf (lookup S x k .refusal) ≡ 0 → ⊥)
+      → lookup S x k ≡ record { refusal = lookup S x k .refusal; rows = replicate rows (asRow 0); count = 0; tx = x }
   unfolding lookup admits
   lookup-refused k h = rw (lookup-why k) (refused (λ (a : Found). a .refusal) (tries (triesOf (lookupLines S x k))) _ _ refl refl h)
 
   pub lookup-accepted : (k : ℕ) → numberOf (lookup S x k .refusal) ≡ 0
-      → lookup S x k ≡ record { refusal = lookup S x k .refusal; rows = pad rows (asRow 0) (map asRow (matching S x k)); count = length (matching S x k); tx = looked S x k }
+      → lookup S x k ≡ record {
+        refusal = lookup S x k .refusal;
+        rows = pad rows (asRow 0) (map asRow (matching S x k));
+        count = length (matching S x k);
+        tx = looked S x k;
+      }
   unfolding lookup admits
   lookup-accepted k h = rw (lookup-why k) (accepted (λ (a : Found). a .refusal) (tries (triesOf (lookupLines S x k))) _ _ refl refl h)
 

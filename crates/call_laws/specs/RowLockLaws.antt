@@ -56,12 +56,19 @@ module _ (S : Store) (p t : ℕ) where
   locked = apply (putLock p t) S
 
   -- a free slot is not the locked one, and stays all zero
-  lock-slots : 0 < getD (S .xmin) p 0 → SlotForm (S .xmin) (S .xmax) (S .next) (S .key) (S .has) (S .locked) (S .owner) → SlotForm (S .xmin) (S .xmax) (S .next) (S .key) (S .has) (locked .locked) (locked .owner)
+  lock-slots : 0 < getD (S .xmin) p 0 → SlotForm (S .xmin) (S .xmax) (S .next) (S .key) (S .has) (S .locked) (S .owner)
+      → SlotForm (S .xmin) (S .xmax) (S .next) (S .key) (S .has) (locked .locked) (locked .owner)
   lock-slots u F = record {
     first = F .first;
     free = λ q e. let f = F .free q e in
         let ne : q ≡ p → ⊥ = λ k. omega (arith, rw k at e, u) in
-        record { unmarked = f .unmarked; unlinked = f .unlinked; empty = f .empty; unlocked = getD-set-other (S .locked) p q true false ne ∙ f .unlocked; unowned = getD-set-other (S .owner) p q t 0 ne ∙ f .unowned };
+        record {
+          unmarked = f .unmarked;
+          unlinked = f .unlinked;
+          empty = f .empty;
+          unlocked = getD-set-other (S .locked) p q true false ne ∙ f .unlocked;
+          unowned = getD-set-other (S .owner) p q t 0 ne ∙ f .unowned;
+        };
     absent = F .absent;
   }
 

@@ -41,7 +41,8 @@ apart-absent : (i : ℕ) (l : List IndexRead) → all (λ q. not (eqb (q .stripe
 apart-absent i [] h = refl
 apart-absent i (q ∷ l) h =
     let a = and-true (not (eqb (q .stripe) i)) (all (λ q. not (eqb (q .stripe) i)) l) h in
-    or-neither (eqb i (q .stripe)) (memb i (stripesIn l)) (ne-eqb i (q .stripe) (λ e. eqb-false (q .stripe) i (not-true (eqb (q .stripe) i) (a .0)) (sym e))) (apart-absent i l (a .1))
+    or-neither (eqb i (q .stripe)) (memb i (stripesIn l))
+    (ne-eqb i (q .stripe) (λ e. eqb-false (q .stripe) i (not-true (eqb (q .stripe) i) (a .0)) (sym e))) (apart-absent i l (a .1))
 
 apart-unique : (l : List IndexRead) → stripesApart l ≡ true → (unique (stripesIn l) ≡ true) × (all (λ i. ltb i stripes) (stripesIn l) ≡ true)
 apart-unique [] h = (refl, refl)
@@ -56,7 +57,8 @@ pub stripes-few : (l : List IndexRead) → stripesApart l ≡ true → length l 
 stripes-few l h = let a = apart-unique l h in omega (arith, unique-few stripes (stripesIn l) (a .0) (a .1), length-map l (λ (e : IndexRead). e .stripe))
 
 -- one stripe more
-stripes-more : (l : List IndexRead) (e : IndexRead) → stripesApart l ≡ true → any (λ q. eqb (q .stripe) (e .stripe)) l ≡ false → e .stripe < stripes → stripesApart (l ++ e ∷ []) ≡ true
+stripes-more : (l : List IndexRead) (e : IndexRead) → stripesApart l ≡ true → any (λ q. eqb (q .stripe) (e .stripe)) l ≡ false → e .stripe < stripes
+    → stripesApart (l ++ e ∷ []) ≡ true
 stripes-more [] e h n lt = rw (lt-ltb (e .stripe) stripes lt)
 stripes-more (r ∷ l) e h n lt =
     let a = and-true (ltb (r .stripe) stripes) (all (λ q. not (eqb (q .stripe) (r .stripe))) l && stripesApart l) h in

@@ -22,15 +22,19 @@ abbrev pub fitsIn : Tx → Store → Write → Bool
 fitsIn y U = writeFit (U .xmin) (U .next) (walk (U .heads) (U .next) .seen) (y .txid .0)
 
 -- a store T that has the chains of S marks the same slots
-pub on-same : (S T : Store) (L : ℕ → List ℕ) → Rests S L → Sized S → Rests T L → Sized T → T .heads ≡ S .heads → (n : ℕ) → on (walk (T .heads) (T .next) .seen) n ≡ on (walk (S .heads) (S .next) .seen) n
+pub on-same : (S T : Store) (L : ℕ → List ℕ) → Rests S L → Sized S → Rests T L → Sized T → T .heads ≡ S .heads → (n : ℕ)
+    → on (walk (T .heads) (T .next) .seen) n ≡ on (walk (S .heads) (S .next) .seen) n
 on-same S T L R z Q w heads n =
     let D = marks T L w (Q .mends) in
-    rw heads (on-near (S .heads) (S .next) (T .next) (walk (S .heads) (S .next) .seen) (walk (S .heads) (T .next) .seen) L (marks S L z (R .mends)) (rw heads at D) n)
+    rw heads (on-near (S .heads) (S .next) (T .next) (walk (S .heads) (S .next) .seen) (walk (S .heads) (T .next) .seen) L
+    (marks S L z (R .mends)) (rw heads at D) n)
 
 -- a transaction y of u, and a store T that has a clock that is not lower, and u's slots as they were and on no chain
 module _ (S T : Store) (y : Tx) (le : S .clock ≤ T .clock)
-    (same : (n : ℕ) → 0 < getD (S .xmin) n 0 → getD (S .xmin) n 0 ≡ y .txid .0 → (getD (T .xmin) n 0 ≡ getD (S .xmin) n 0) × (getD (T .next) n 0 ≡ getD (S .next) n 0))
-    (off : (n : ℕ) → 0 < getD (S .xmin) n 0 → getD (S .xmin) n 0 ≡ y .txid .0 → on (walk (S .heads) (S .next) .seen) n ≡ false → on (walk (T .heads) (T .next) .seen) n ≡ false) where
+    (same : (n : ℕ) → 0 < getD (S .xmin) n 0 → getD (S .xmin) n 0 ≡ y .txid .0
+    → (getD (T .xmin) n 0 ≡ getD (S .xmin) n 0) × (getD (T .next) n 0 ≡ getD (S .next) n 0))
+    (off : (n : ℕ) → 0 < getD (S .xmin) n 0 → getD (S .xmin) n 0 ≡ y .txid .0 → on (walk (S .heads) (S .next) .seen) n ≡ false
+    → on (walk (T .heads) (T .next) .seen) n ≡ false) where
   -- a fit write stays fit
   pub writes-fit : (v : Write) → fitsIn y S v ≡ true → fitsIn y T v ≡ true
   writes-fit v h =

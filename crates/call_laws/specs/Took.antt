@@ -89,7 +89,8 @@ has-other p Absent l x n = refl
 has-other p (Key k) l x n = getD-set-other l p x true false n
 
 -- the taken slot's absent key is 0 where it was
-absent-at : (p : ℕ) (v : Value) (key : List ℕ) (has : List Bool) → p < length has → getD key p 0 ≡ 0 → getD (hasAt p v has) p false ≡ false → getD (keyAt p v key) p 0 ≡ 0
+absent-at : (p : ℕ) (v : Value) (key : List ℕ) (has : List Bool) → p < length has → getD key p 0 ≡ 0 → getD (hasAt p v has) p false ≡ false
+    → getD (keyAt p v key) p 0 ≡ 0
 absent-at p Absent key has lt e n = e
 absent-at p (Key k) key has lt e n = clash (getD-set-same has p true false lt) n
 
@@ -131,9 +132,16 @@ module _ (S : Store) (L : ℕ → List ℕ) (z : Sized S) (R : Rests S L) (p t q
         first = xmin-other 0 (λ e. omega (arith, e, W .some)) ∙ F .first;
         free = λ x e. let n : x ≡ p → ⊥ = λ k. omega (arith, rw (k, xmin-here) at e, txid-positive S L z R t a) in
             let o = F .free x (sym (xmin-other x n) ∙ e) in
-            record { unmarked = o .unmarked; unlinked = next-other x n ∙ o .unlinked; empty = has-other p v (S .has) x n ∙ o .empty; unlocked = o .unlocked; unowned = o .unowned };
+            record {
+              unmarked = o .unmarked;
+              unlinked = next-other x n ∙ o .unlinked;
+              empty = has-other p v (S .has) x n ∙ o .empty;
+              unlocked = o .unlocked;
+              unowned = o .unowned;
+            };
         absent = λ x e. by (eqb x p)
-            (λ k. let xp = eqb-true x p k in rw xp (absent-at p v (S .key) (S .has) (omega (arith, W .within, z .xmin, z .has)) (F .absent p (F .free p (W .free) .empty)) (rw xp at e)))
+            (λ k. let xp = eqb-true x p k in
+            rw xp (absent-at p v (S .key) (S .has) (omega (arith, W .within, z .xmin, z .has)) (F .absent p (F .free p (W .free) .empty)) (rw xp at e)))
             (λ k. let n = eqb-false x p k in key-other p v (S .key) x n ∙ F .absent x (sym (has-other p v (S .has) x n) ∙ e));
       }
 

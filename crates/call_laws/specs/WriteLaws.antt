@@ -70,9 +70,11 @@ else-shares (w ∷ ws) v n =
     rw (ne-eqb (v .row .0) (w .row .0) (λ e. eqb-false (w .row .0) (v .row .0) (o .0) (sym e))) (else-shares ws v (o .1))
 
 -- the writes of a row share the base of the last one
-last-shares : (before : List Write) (u : Write) (after : List Write) (v : Write) → writesApart (before ++ u ∷ after) ≡ true → u .row .0 ≡ v .row .0 → u .base .0 ≡ v .base .0
+last-shares : (before : List Write) (u : Write) (after : List Write) (v : Write) → writesApart (before ++ u ∷ after) ≡ true → u .row .0 ≡ v .row .0
+    → u .base .0 ≡ v .base .0
     → any (ofRow (v .row .0)) after ≡ false → all (sharing v) (before ++ u ∷ after) ≡ true
-last-shares [] u after v h er eb n = rw (eq-eqb (v .base .0) (u .base .0) (sym eb)) (and-both _ _ (or-right (not (eqb (v .row .0) (u .row .0))) true refl) (else-shares after v n))
+last-shares [] u after v h er eb n =
+    rw (eq-eqb (v .base .0) (u .base .0) (sym eb)) (and-both _ _ (or-right (not (eqb (v .row .0) (u .row .0))) true refl) (else-shares after v n))
 last-shares (w ∷ before) u after v h er eb n =
     let a = and-true (all (λ t. apartFrom t w && sharing t w) (before ++ u ∷ after)) (writesApart (before ++ u ∷ after)) h in
     let s = and-true (apartFrom u w) (sharing u w) (all-mid (λ t. apartFrom t w && sharing t w) before u after (a .0)) .1 in
@@ -88,7 +90,10 @@ module _ (S : Store) (x : Tx) (L : ℕ → List ℕ) (z : Sized S) (R : Rests S 
       (λ e. let o = last-of r (writesOf x) (writes-taken S x L z R k) e in
       let n = ltb-true 0 (lastOwn r (writesOf x) .new .0) (o .1) in
       rw (ne-eqb (lastOwn r (writesOf x) .new .0) 0 (λ q. omega (arith, q, n))) (kept (lastOwn r (writesOf x)) (o .0)))
-      (λ e. rw (last-none r (writesOf x) e, chained-from (S .heads) (S .next) (walk (S .heads) (S .next) .seen) L (marks S L z (R .mends)) r (omega (arith, z .heads)))
+      (λ e. rw (
+        last-none r (writesOf x) e,
+        chained-from (S .heads) (S .next) (walk (S .heads) (S .next) .seen) L (marks S L z (R .mends)) r (omega (arith, z .heads)),
+      )
       (by (any v (L r))
       (λ s. found (firstOf v (L r)) e (first-of v (L r) s))
       (λ s. rw (first-none v (L r) s) (none e s))))
@@ -98,7 +103,12 @@ module _ (S : Store) (x : Tx) (L : ℕ → List ℕ) (z : Sized S) (R : Rests S 
   base-within _ (kept w o) = leb-true (w .base .0) slots (write-parts (S .xmin) (S .next) (walk (S .heads) (S .next) .seen) (x .txid .0) w
       (all-mid (fitsIn x S) (o .before) w (o .after) (rw (o .split) at (fit-parts S x k .writes))) .base)
   base-within q (found _ e F) =
-      omega (arith, z .next, chain-below (S .next) (getD (S .heads) r 0) (L r) q (R .mends .stands .chains .chain r (omega (arith, z .heads))) (rw (F .split) (mem-mid q (F .before) (F .after))) .1)
+      omega (
+        arith,
+        z .next,
+        chain-below (S .next) (getD (S .heads) r 0) (L r) q (R .mends .stands .chains .chain r (omega (arith, z .heads)))
+            (rw (F .split) (mem-mid q (F .before) (F .after))) .1,
+      )
   base-within _ (none e s) = omega arith
 
   -- the earlier writes of the row share it
@@ -108,7 +118,8 @@ module _ (S : Store) (x : Tx) (L : ℕ → List ℕ) (z : Sized S) (R : Rests S 
   base-shared q p (found _ e F) = else-shares (writesOf x) (writeOf r q p) e
   base-shared q p (none e s) = else-shares (writesOf x) (writeOf r q p) e
 
-  module _ (y : SizedTx x) (p : ℕ) (v : Value) (W : Lowest (S .xmin) p) (a : memb (x .txid .0) (activeTxids (S .active)) ≡ true) (room : x .«write_count» < writeLimit) where
+  module _ (y : SizedTx x) (p : ℕ) (v : Value) (W : Lowest (S .xmin) p) (a : memb (x .txid .0) (activeTxids (S .active)) ≡ true)
+      (room : x .«write_count» < writeLimit) where
     abbrev t : ℕ
     t = x .txid .0
 
@@ -145,7 +156,11 @@ module _ (S : Store) (x : Tx) (L : ℕ → List ℕ) (z : Sized S) (R : Rests S 
 
     -- (its slot is used, the new one was free)
     used-other : (w : Write) → fitsIn x S w ≡ true → w .new .0 ≡ p → ⊥
-    used-other w h e = omega (arith, rw e at (ltb-true 0 (getD (S .xmin) (w .new .0) 0) (write-parts (S .xmin) (S .next) (walk (S .heads) (S .next) .seen) t w h .taken)), W .free)
+    used-other w h e = omega (
+      arith,
+      rw e at (ltb-true 0 (getD (S .xmin) (w .new .0) 0) (write-parts (S .xmin) (S .next) (walk (S .heads) (S .next) .seen) t w h .taken)),
+      W .free,
+    )
 
     -- so it is fit still
     old-fits : (w : Write) → fitsIn x S w ≡ true → fitsIn x T w ≡ true
@@ -180,7 +195,18 @@ module _ (S : Store) (x : Tx) (L : ℕ → List ℕ) (z : Sized S) (R : Rests S 
         let few : length all-writes ≤ writeLimit = omega (arith, one-more) in
         let e = take-pad writeLimit noWrite all-writes few in
         parts-fit T (withWrites all-writes x) (record {
-          counts = parts-counts (withWrites all-writes x) (record { writes = le-leb (length all-writes) writeLimit few; reads = K .reads; «index_reads» = K .«index_reads»; snapshot = K .snapshot; savepoints = K .savepoints; noWrites = drop-pad noWrite blankWrite refl writeLimit all-writes; noReads = K .noReads; noIndexReads = K .noIndexReads; noTxids = K .noTxids; noSavepoints = K .noSavepoints });
+          counts = parts-counts (withWrites all-writes x) (record {
+            writes = le-leb (length all-writes) writeLimit few;
+            reads = K .reads;
+            «index_reads» = K .«index_reads»;
+            snapshot = K .snapshot;
+            savepoints = K .savepoints;
+            noWrites = drop-pad noWrite blankWrite refl writeLimit all-writes;
+            noReads = K .noReads;
+            noIndexReads = K .noIndexReads;
+            noTxids = K .noTxids;
+            noSavepoints = K .noSavepoints;
+          });
           reads = P .reads;
           writes = rw e (all-more (fitsIn x T) (writesOf x) added (all-then (fitsIn x S) (fitsIn x T) old-fits (writesOf x) (P .writes)) new-fits);
           apart = rw e (apart-more (writesOf x) added (P .apart) (all-both (apartFrom added) (sharing added) (writesOf x)
@@ -188,7 +214,9 @@ module _ (S : Store) (x : Tx) (L : ℕ → List ℕ) (z : Sized S) (R : Rests S 
               (base-shared q p based)));
           stripes = P .stripes;
           savepoints = P .savepoints;
-          within = all-then (λ n. leb n (x .«write_count»)) (λ n. leb n (length all-writes)) (λ n h. le-leb n (length all-writes) (omega (arith, one-more, leb-true n (x .«write_count») h))) (savepointsOf x) (P .within);
+          within =
+              all-then (λ n. leb n (x .«write_count»)) (λ n. leb n (length all-writes))
+              (λ n h. le-leb n (length all-writes) (omega (arith, one-more, leb-true n (x .«write_count») h))) (savepointsOf x) (P .within);
           snapshot = P .snapshot;
           present = P .present;
         })
@@ -221,7 +249,8 @@ module _ (S : Store) (x : Tx) (r : ℕ) (v : Value) (z : Sized S) (h : numberOf 
   write-chains y L R =
       let P = write-passed S x r v h in
       let p = lowestFree (S .xmin) in
-      rw (write-accepted S x r v h, took-is p (x .txid .0) (baseOf S x r) v S) (T-rests S x L z R (P .first .fits) r (P .row) y p v (lowest (S .xmin) (P .free)) (P .first .active) (P .room))
+      rw (write-accepted S x r v h, took-is p (x .txid .0) (baseOf S x r) v S)
+      (T-rests S x L z R (P .first .fits) r (P .row) y p v (lowest (S .xmin) (P .free)) (P .first .active) (P .room))
 
   -- and the transaction can go on
   pub write-keeps : SizedTx x → Keeps (write S x r v .store) (write S x r v .tx)
@@ -234,7 +263,13 @@ module _ (S : Store) (x : Tx) (r : ℕ) (v : Value) (z : Sized S) (h : numberOf 
       let Z = T-sized S x (R .0) z (R .1) (l .fits) r (P .row) y p v W (l .active) (P .room) in
       rw (write-accepted S x r v h, took-is p (x .txid .0) (baseOf S x r) v S) (record {
         sized = Z;
-        shaped = record { snapshot = y .snapshot; writes = pad-length writeLimit noWrite (writesOf x ++ writeOf r (baseOf S x r) p ∷ []); reads = y .reads; «index_reads» = y .«index_reads»; savepoints = y .savepoints };
+        shaped = record {
+          snapshot = y .snapshot;
+          writes = pad-length writeLimit noWrite (writesOf x ++ writeOf r (baseOf S x r) p ∷ []);
+          reads = y .reads;
+          «index_reads» = y .«index_reads»;
+          savepoints = y .savepoints;
+        };
         rests = rested (took p (x .txid .0) (baseOf S x r) v S) (R .0) Z (T-rests S x (R .0) z (R .1) (l .fits) r (P .row) y p v W (l .active) (P .room));
         fits = write-fits S x (R .0) z (R .1) (l .fits) r (P .row) y p v W (l .active) (P .room);
         active = l .active;

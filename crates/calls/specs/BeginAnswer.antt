@@ -31,12 +31,15 @@ beginTries rests poisoned active clock = tries (
     ∷ [])
 
 -- where nothing is refused, the clock can rise
-pub begin-clock : (why : Refusal) (rests poisoned : Bool) (active : List ℕ) (clock : ℕ) → why ≡ beginTries rests poisoned active clock → isDone why ≡ true → clock < clockEnd
+pub begin-clock : (why : Refusal) (rests poisoned : Bool) (active : List ℕ) (clock : ℕ) → why ≡ beginTries rests poisoned active clock
+    → isDone why ≡ true → clock < clockEnd
 unfolding beginTries
 begin-clock why rests poisoned active clock e d =
     last (not rests) poisoned (leb activeLimit (length (activeTxids active))) (leb clockEnd clock) refl (sym (ap isDone e) ∙ d)
   where
-    last : (a b c d : Bool) → leb clockEnd clock ≡ d → isDone (cond a (NotResting Open) (cond b (FoundPoisoned Open) (cond c (ActiveFull Open) (cond d (ClockAtEnd Open) Done)))) ≡ true → clock < clockEnd
+    last : (a b c d : Bool) → leb clockEnd clock ≡ d
+        → isDone (cond a (NotResting Open) (cond b (FoundPoisoned Open) (cond c (ActiveFull Open) (cond d (ClockAtEnd Open) Done)))) ≡ true
+        → clock < clockEnd
     last true b c d q h = clash h refl
     last false true c d q h = clash h refl
     last false false true d q h = clash h refl
@@ -80,7 +83,8 @@ begun-is active clock oldest count z o n e long =
     λ i. snapped clock (first i) active (many i) (e i)
 
 -- lent, the active list is the store's
-pub begin-why : (S : Store) → Sized S → (rests : Bool) (why : Refusal) → rests ≡ resting S → why ≡ beginTries rests (S .poisoned) (atActive (S .active)) (S .clock)
+pub begin-why : (S : Store) → Sized S → (rests : Bool) (why : Refusal) → rests ≡ resting S
+    → why ≡ beginTries rests (S .poisoned) (atActive (S .active)) (S .clock)
     → why ≡ beginTries (resting S) (S .poisoned) (S .active) (S .clock)
 begin-why S z rests why e f = f ∙ rw (e, active-whole S z)
 
@@ -99,6 +103,7 @@ module _ (S : Store) (why : Refusal) (e : why ≡ beginTries (resting S) (S .poi
   pub begin-refused : {y : Tx} → isDone why ≡ false → y ≡ zeroTx → record { refusal = why; store = S; tx = y } ≡ begin S
   begin-refused d z = rw z (choose-refused done refused why _ e d ∙ answer)
 
-  pub begin-done : {T : Store} {x : Tx} → isDone why ≡ true → T ≡ applyAll (beginPuts (S .clock)) S → x ≡ begunOf (S .active) (S .clock) → record { refusal = why; store = T; tx = x } ≡ begin S
+  pub begin-done : {T : Store} {x : Tx} → isDone why ≡ true → T ≡ applyAll (beginPuts (S .clock)) S → x ≡ begunOf (S .active) (S .clock)
+      → record { refusal = why; store = T; tx = x } ≡ begin S
   unfolding begun begunOf zeroTx onlyTxid
   begin-done d t x = (λ i. record { refusal = why; store = t i; tx = x i }) ∙ choose-done done refused why _ e d ∙ answer

@@ -67,7 +67,8 @@ module _ (S : Store) (x : Tx) (r : ℕ) where
   unfolding rowLock choose
   answer = either (isDone lockWhy) lockWhy
     where
-      either : (b : Bool) (w : Refusal) → cond b (done w) (refused w) ≡ record { refusal = w; store = cond b (applyAll (putLock head-at (x .txid .0) ∷ []) S) S; tx = x }
+      either : (b : Bool) (w : Refusal)
+          → cond b (done w) (refused w) ≡ record { refusal = w; store = cond b (applyAll (putLock head-at (x .txid .0) ∷ []) S) S; tx = x }
       either true w = refl
       either false w = refl
 
@@ -85,7 +86,9 @@ module _ (S : Store) (x : Tx) (r : ℕ) where
     locked-is = (rw (locked-whole S z, owner-whole S z, active-whole S z) at l) ∙ rw head-is (sym (locked-of S (x .txid .0) head-at))
 
     why-is : why ≡ lockWhy
-    why-is = found-healthy S x (lockTests r is-locked head-at) tried first why (lockTries r locked head) a e f (λ _. lock-tries r head head-at locked is-locked head-is locked-is)
+    why-is =
+        found-healthy S x (lockTests r is-locked head-at) tried first why (lockTries r locked head) a e f
+        (λ _. lock-tries r head head-at locked is-locked head-is locked-is)
 
     pub lock-refused : isDone why ≡ false → record { refusal = why; store = S; tx = x } ≡ rowLock S x r
     lock-refused d = choose-refused done refused why _ why-is d ∙ answer
@@ -95,7 +98,8 @@ module _ (S : Store) (x : Tx) (r : ℕ) where
         let ok = admitted-both S x _ (sym (ap isDone why-is) ∙ d) in
         rw head-is (head-placed S r z (ok .0))
 
-    pub lock-done : {T : Store} → isDone why ≡ true → T ≡ applyAll (putLock head (x .txid .0) ∷ []) S → record { refusal = why; store = T; tx = x } ≡ rowLock S x r
+    pub lock-done : {T : Store} → isDone why ≡ true → T ≡ applyAll (putLock head (x .txid .0) ∷ []) S
+        → record { refusal = why; store = T; tx = x } ≡ rowLock S x r
     lock-done d t =
         (λ i. record { refusal = why; store = (t ∙ ap (λ (p : ℕ). applyAll (putLock p (x .txid .0) ∷ []) S) head-is) i; tx = x })
         ∙ choose-done done refused why _ why-is d

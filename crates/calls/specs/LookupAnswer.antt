@@ -69,7 +69,8 @@ marks-long : (postings : List ℕ) (count : ℕ) (x : Tx) (k : ℕ) → length (
 unfolding candidateMarks noRows
 marks-long postings count x k = mark-length (candidateRows postings count x k) noRows ∙ length-replicate rows false
 
-rows-marked : (S : Store) (x : Tx) (k : ℕ) (marks : List Bool) → Sized S → fit S x ≡ true → marks ≡ candidateMarks (atPostings (S .postings)) (S .«posting_count») x k
+rows-marked : (S : Store) (x : Tx) (k : ℕ) (marks : List Bool) → Sized S → fit S x ≡ true
+    → marks ≡ candidateMarks (atPostings (S .postings)) (S .«posting_count») x k
     → markedRows (flagsAtRows marks) ≡ candidates S x k
 rows-marked S x k marks z ok e =
     let whole : marks ≡ candidateMarks (S .postings) (S .«posting_count») x k = rw (postings-whole S z) at e in
@@ -89,7 +90,8 @@ module _ (S : Store) (x : Tx) (k : ℕ) where
   lookupWhy = admitsHealthy S x (lookupTests (ltb readLimit (length reads-after)))
 
   abbrev done : Refusal → Found
-  done w = record { refusal = w; rows = pad rows (asRow 0) (map asRow (matching S x k)); count = length (matching S x k); tx = looked (S .stamps) x reads-after k }
+  done w =
+      record { refusal = w; rows = pad rows (asRow 0) (map asRow (matching S x k)); count = length (matching S x k); tx = looked (S .stamps) x reads-after k }
 
   abbrev refused : Refusal → Found
   refused w = record { refusal = w; rows = replicate rows (asRow 0); count = 0; tx = x }
@@ -106,22 +108,28 @@ module _ (S : Store) (x : Tx) (k : ℕ) where
       (e : first ≡ unless tried (poisonedTries (S .poisoned)))
       (f : why ≡ unless first (lookupTries (l .over))) where
     list-is : fit S x ≡ true → l ≡ laid reads-after
-    list-is ok = (rw (heads-whole S z, next-whole S z, xmin-whole S z, rows-marked S x k marks z ok c) at h) ∙ ap laid (sym (record-reads S x (candidates S x k) (readsOf x)))
+    list-is ok =
+        (rw (heads-whole S z, next-whole S z, xmin-whole S z, rows-marked S x k marks z ok c) at h)
+        ∙ ap laid (sym (record-reads S x (candidates S x k) (readsOf x)))
 
     why-is : why ≡ lookupWhy
-    why-is = found-healthy S x (lookupTests (ltb readLimit (length reads-after))) tried first why (lookupTries (l .over)) a e f (λ ok. lookup-tries l reads-after (list-is ok))
+    why-is =
+        found-healthy S x (lookupTests (ltb readLimit (length reads-after))) tried first why (lookupTries (l .over)) a e f
+        (λ ok. lookup-tries l reads-after (list-is ok))
 
     pub lookup-refused : isDone why ≡ false → record { refusal = why; rows = replicate rows (asRow 0); count = 0; tx = x } ≡ lookup S x k
     lookup-refused d = choose-refused done refused why _ why-is d ∙ answer
 
     pub lookup-done : {q : RowList} {y : Tx} → isDone why ≡ true
-        → q ≡ rowList (matchingOf (atRows (S .heads)) (atPlaces (S .next)) (atPlaces (S .xmin)) (atPlaces (S .key)) (flagsAtPlaces (S .has)) x k (markedRows (flagsAtRows marks)))
+        → q ≡ rowList (matchingOf (atRows (S .heads)) (atPlaces (S .next)) (atPlaces (S .xmin)) (atPlaces (S .key)) (flagsAtPlaces (S .has)) x k
+        (markedRows (flagsAtRows marks)))
         → ((m : List ReadRecord) → l ≡ laid m → l .over ≡ false → y ≡ looked (atStripes (S .stamps)) x m k)
         → record { refusal = why; rows = q .at; count = q .count; tx = y } ≡ lookup S x k
     lookup-done {q} {y} d u w =
         let ok = admitted-both S x _ (sym (ap isDone why-is) ∙ d) .1 in
         let found : q ≡ rowList (matching S x k) =
-        (rw (heads-whole S z, next-whole S z, xmin-whole S z, key-whole S z, has-whole S z, rows-marked S x k marks z ok c) at u) ∙ ap rowList (sym (matching-of S x k)) in
+        (rw (heads-whole S z, next-whole S z, xmin-whole S z, key-whole S z, has-whole S z, rows-marked S x k marks z ok c) at u)
+        ∙ ap rowList (sym (matching-of S x k)) in
         let parts = row-list q (matching S x k) found in
         let tx-is : y ≡ looked (S .stamps) x reads-after k =
         rw (stamps-whole S z) at (w reads-after (list-is ok) (reads-fit (l .over) (both-done why first (lookupTries (l .over)) f d .1))) in

@@ -68,7 +68,9 @@ module _ (S : Store) (x : Tx) (r : ℕ) where
     list-is = (rw (heads-whole S z, next-whole S z, xmin-whole S z) at h) ∙ ap laid (sym (record-read S x r (readsOf x)))
 
     why-is : why ≡ readWhy
-    why-is = found-healthy S x (readTests r (ltb readLimit (length reads-after))) tried first why (readTries r (l .over)) a e f (λ _. read-tries r l reads-after list-is)
+    why-is =
+        found-healthy S x (readTests r (ltb readLimit (length reads-after))) tried first why (readTries r (l .over)) a e f
+        (λ _. read-tries r l reads-after list-is)
 
     pub read-refused : isDone why ≡ false → record { refusal = why; value = Absent; tx = x } ≡ read S x r
     read-refused d = choose-refused done refused why _ why-is d ∙ answer
@@ -81,7 +83,8 @@ module _ (S : Store) (x : Tx) (r : ℕ) where
     read-done {p} {v} {y} d q u w =
         let ptr-is : p ≡ readPtr S x r = (rw (heads-whole S z, next-whole S z, xmin-whole S z) at q) ∙ sym (read-ptr S x r) in
         let value-is : v ≡ valueAt (S .key) (S .has) (readPtr S x r) = (rw (key-whole S z, has-whole S z) at u) ∙ ap (valueAt (S .key) (S .has)) ptr-is in
-        let tx-is : y ≡ withReads reads-after x = w ∙ reads-from l reads-after x list-is (reads-fit r (l .over) (both-done why first (readTries r (l .over)) f d .1)) in
+        let tx-is : y ≡ withReads reads-after x =
+        w ∙ reads-from l reads-after x list-is (reads-fit r (l .over) (both-done why first (readTries r (l .over)) f d .1)) in
         (λ i. record { refusal = why; value = value-is i; tx = tx-is i })
         ∙ choose-done done refused why _ why-is d
         ∙ answer

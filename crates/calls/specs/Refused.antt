@@ -59,14 +59,16 @@ admitted-both S x more d = go (resting S) (fit S x) refl refl d
     rest : Refusal
     rest = tries (refuse (not (memb (x .txid .0) (activeTxids (S .active)))) (NotActive Closed) ∷ more)
 
-    go : (a b : Bool) → resting S ≡ a → fit S x ≡ b → isDone (cond (not a) (NotResting Open) (cond (not b) (Unfit Open) rest)) ≡ true → (resting S ≡ true) × (fit S x ≡ true)
+    go : (a b : Bool) → resting S ≡ a → fit S x ≡ b → isDone (cond (not a) (NotResting Open) (cond (not b) (Unfit Open) rest)) ≡ true
+        → (resting S ≡ true) × (fit S x ≡ true)
     go true true p q h = (p, q)
     go true false p q h = clash h refl
     go false b p q h = clash h refl
 
 -- as code finds it: admission, poison, then the call's own tests, which may lean on a fit transaction
 pub found-healthy : (S : Store) (x : Tx) (more : List Try) (tried first why own : Refusal)
-    → tried ≡ admitted S x true → first ≡ unless tried (poisonedTries (S .poisoned)) → why ≡ unless first own → (fit S x ≡ true → own ≡ tries more) → why ≡ admitsHealthy S x more
+    → tried ≡ admitted S x true → first ≡ unless tried (poisonedTries (S .poisoned)) → why ≡ unless first own → (fit S x ≡ true → own ≡ tries more)
+    → why ≡ admitsHealthy S x more
 found-healthy S x more tried first why own q e f g =
     let a = q ∙ admitted-call S x in
     let whole : unless first (tries more) ≡ admitsHealthy S x more = rw (e, a) (sym (healthy-then S x more)) in

@@ -85,7 +85,9 @@ module _ (S : Store) (x : Tx) (r : ℕ) (v : Value) where
     free-is = rw (xmin-whole S z) at h
 
     why-is : why ≡ writeWhy
-    why-is = found-healthy S x (writeTests r (x .«write_count») free-at) tried first why (writeTries r (x .«write_count») free) a e f (λ _. write-tries r (x .«write_count») free free-at free-is)
+    why-is =
+        found-healthy S x (writeTests r (x .«write_count») free-at) tried first why (writeTries r (x .«write_count») free) a e f
+        (λ _. write-tries r (x .«write_count») free free-at free-is)
 
     pub write-refused : isDone why ≡ false → record { refusal = why; slot = record { 0 = 0 }; store = S; tx = x } ≡ write S x r v
     write-refused d = choose-refused done refused why _ why-is d ∙ answer

@@ -13,12 +13,12 @@ use admit::admission::is_done;
 use journal::Journal;
 use journal::at_marks::push_abort;
 use recording::changed::only_txid;
-use visibility::own_slots::own_marks;
 use records::Reply;
 use records::SlotPtr;
 use records::Store;
 use records::Tx;
 use records::Txid;
+use visibility::own_slots::own_marks;
 
 // Frees, rising, every off-chain slot of t, then drops it from the active list.
 fn plan_abort<'a>(
@@ -27,7 +27,8 @@ fn plan_abort<'a>(
     t: Txid,
     j: &mut [u64; Journal::WORDS],
 ) -> usize
-    ensures { λ n. ⌜ ((heads next : List ℕ) → now (seen .entry) ≡ walk (atRows heads) (atPlaces next) .seen → Adds (now (j .entry)) 0 (abortPutsOf (atRows heads) (atPlaces next) (atPlaces (now (xmin .entry))) (t .0)) (now (j .exit)) n) ⌝ }
+    ensures { λ n. ⌜ ((heads next : List ℕ) → now (seen .entry) ≡ walk (atRows heads) (atPlaces next) .seen
+        → Adds (now (j .entry)) 0 (abortPutsOf (atRows heads) (atPlaces next) (atPlaces (now (xmin .entry))) (t .0)) (now (j .exit)) n) ⌝ }
 {
     let own = own_marks(xmin, seen, t);
     push_abort(&own, t.0, j, 0)

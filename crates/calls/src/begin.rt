@@ -11,15 +11,15 @@ ghost use Rattle.calls.specs.BeginAnswer.{beginTries, beginPuts, begunOf
 use admit::admission::is_done;
 use journal::Journal;
 use journal::Kind;
-use resting::rest::resting;
-use visibility::active::active_count;
-use visibility::active::oldest_active;
 use records::Fate;
 use records::Refusal;
 use records::Reply;
 use records::Store;
 use records::Tx;
 use records::Txid;
+use resting::rest::resting;
+use visibility::active::active_count;
+use visibility::active::oldest_active;
 
 // Numbers 1, 9, 21 and 22.
 fn begin_refusal(rests: bool, poisoned: bool, active: &[u64; Txid::ACTIVE], clock: u64) -> Refusal

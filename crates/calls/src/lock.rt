@@ -12,6 +12,8 @@ ghost use Rattle.calls.specs.LockAnswer.{lockTries};
 use super::refusal::healthy;
 use admit::admission::admitted;
 use admit::admission::is_done;
+use fields::lent::head_of;
+use fields::locks::locked_by_another;
 use journal::Journal;
 use journal::Kind;
 use records::Fate;
@@ -22,8 +24,6 @@ use records::SlotPtr;
 use records::Store;
 use records::Tx;
 use records::Txid;
-use fields::lent::head_of;
-use fields::locks::locked_by_another;
 
 // Numbers 23, 27 and 28, if nothing was refused before.
 fn lock_refusal(first: Refusal, r: RowId, head: SlotPtr, locked: bool) -> Refusal

@@ -9,8 +9,6 @@ use admit::admission::admitted;
 use admit::admission::is_done;
 use recording::changed::with_reads;
 use recording::reads::with_read;
-use visibility::found::read_ptr;
-use visibility::slots::value_at;
 use records::Fate;
 use records::Refusal;
 use records::RowId;
@@ -18,6 +16,8 @@ use records::Seen;
 use records::Store;
 use records::Tx;
 use records::Value;
+use visibility::found::read_ptr;
+use visibility::slots::value_at;
 
 // Numbers 23 and 24, if nothing was refused before.
 fn read_refusal(first: Refusal, r: RowId, over: bool) -> Refusal

@@ -14,8 +14,6 @@ use admit::admission::is_done;
 use journal::Journal;
 use journal::Kind;
 use recording::changed::with_write;
-use visibility::found::base_of;
-use visibility::slots::lowest_free;
 use records::Fate;
 use records::Refusal;
 use records::RowId;
@@ -26,6 +24,8 @@ use records::Txid;
 use records::Value;
 use records::Write;
 use records::Written;
+use visibility::found::base_of;
+use visibility::slots::lowest_free;
 
 // Numbers 23, 25 and 26, if nothing was refused before.
 fn write_refusal(first: Refusal, r: RowId, writes: usize, free: SlotPtr) -> Refusal

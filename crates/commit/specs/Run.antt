@@ -47,13 +47,15 @@ wholeAnswer T x logged bound l g n =
     }
 
 -- the puts applied are the first m of the run's
-applied : {j : List ℕ} {n m : ℕ} {ps : List Put} {T : Store} (S : Store) → Holds j n ps → m ≤ n → T ≡ applyAll (puts j (min m putLimit)) S → T ≡ applyAll (take m ps) S
+applied : {j : List ℕ} {n m : ℕ} {ps : List Put} {T : Store} (S : Store) → Holds j n ps → m ≤ n → T ≡ applyAll (puts j (min m putLimit)) S
+    → T ≡ applyAll (take m ps) S
 applied {j} {n} {m} S h l e =
     let room = h .room in
     let z : min m putLimit ≡ m = omega arith in
     e ∙ ap (λ (k : ℕ). applyAll (puts j k) S) z ∙ ap (λ (qs : List Put). applyAll qs S) (holds-cut m h l .are)
 
-module _ (S : Store) (x : Tx) (logged : Bool) (plan : Schedule) (cut : Cut) {j : List ℕ} {n m : ℕ} {T : Store} (holds : Holds j n (runOf S x logged plan .puts)) (stop : m ≡ stopAt cut n) (stored : T ≡ applyAll (puts j (min m putLimit)) S) where
+module _ (S : Store) (x : Tx) (logged : Bool) (plan : Schedule) (cut : Cut) {j : List ℕ} {n m : ℕ} {T : Store}
+    (holds : Holds j n (runOf S x logged plan .puts)) (stop : m ≡ stopAt cut n) (stored : T ≡ applyAll (puts j (min m putLimit)) S) where
   -- there are n stores, and no more than them are made
   count : n ≡ length (runOf S x logged plan .puts)
   count = holds-count holds
@@ -82,18 +84,34 @@ module _ (S : Store) (x : Tx) (logged : Bool) (plan : Schedule) (cut : Cut) {j :
   unfolding cutAnswer cutOff
   run-cut e l =
       e
-      ∙ (λ i. record { refusal = CutOff Closed; «record» = noRecord; store = applied S holds (within cut stop) stored i; tx = zeroTx; events = noEvents; stores = m })
+      ∙ (λ i. record {
+        refusal = CutOff Closed;
+        «record» = noRecord;
+        store = applied S holds (within cut stop) stored i;
+        tx = zeroTx;
+        events = noEvents;
+        stores = m;
+      })
       ∙ cut-is cut stop l
 
-  pub run-whole : {a : Answer} (g : ℕ) → g ≡ gateOf S x logged plan → (l : Letters) → l ≡ letters plan → a ≡ wholeAnswer T x logged (S .bound) l g n → n ≤ m → a ≡ answer S x logged (runOf S x logged plan) cut
+  pub run-whole : {a : Answer} (g : ℕ) → g ≡ gateOf S x logged plan → (l : Letters) → l ≡ letters plan
+      → a ≡ wholeAnswer T x logged (S .bound) l g n → n ≤ m → a ≡ answer S x logged (runOf S x logged plan) cut
   unfolding wholeAnswer
   run-whole g at l is e all-made =
       let p = letterIn l in
       let d = endingFor p (numberAt g) in
       let few = within cut stop in
-      let all : T ≡ applyAll (runOf S x logged plan .puts) S = applied S holds few stored ∙ ap (λ (qs : List Put). applyAll qs S) (take-all m (runOf S x logged plan .puts) (omega (arith, count))) in
+      let all : T ≡ applyAll (runOf S x logged plan .puts) S =
+      applied S holds few stored ∙ ap (λ (qs : List Put). applyAll qs S) (take-all m (runOf S x logged plan .puts) (omega (arith, count))) in
       let made = count in
       e
-      ∙ (λ i. record { refusal = d .refusal; «record» = recordIf (leb cleanGate g) x; store = all i; tx = txFor p x (leftAt g); events = eventsBy logged (S .bound) (ltb 0 (length (finals x))) (passedAt g) d; stores = made i })
+      ∙ (λ i. record {
+        refusal = d .refusal;
+        «record» = recordIf (leb cleanGate g) x;
+        store = all i;
+        tx = txFor p x (leftAt g);
+        events = eventsBy logged (S .bound) (ltb 0 (length (finals x))) (passedAt g) d;
+        stores = made i;
+      })
       ∙ sym (answered S x logged plan g at l is d refl (txFor p x (leftAt g)) refl)
       ∙ whole-is cut stop all-made

@@ -9,7 +9,8 @@ use Rattle.rules.specs.Commit.{runOf}
 use Rattle.rules.specs.Answer.{answer, unchanged, commit}
 use Rattle.admit.specs.Admission.{triedBy, admitted, admitted-fit}
 
-module _ (S : Store) (x : Tx) (logged : Bool) (plan : Schedule) (cut : Cut) {why : Refusal} {planned : Bool} (p : planned ≡ scheduleFit plan) (e : why ≡ admitted S x planned) where
+module _ (S : Store) (x : Tx) (logged : Bool) (plan : Schedule) (cut : Cut) {why : Refusal} {planned : Bool} (p : planned ≡ scheduleFit plan)
+    (e : why ≡ admitted S x planned) where
   -- where nothing is refused the transaction is fit, and the steps answer
   pub tried-fit : isDone why ≡ true → fit S x ≡ true
   tried-fit d = admitted-fit S x planned (ap isDone (sym e) ∙ d)

@@ -6,6 +6,13 @@ ghost use Rattle.commit_tests.specs.FinalTurns.{finalsLaid};
 ghost use Rattle.commit.specs.Run.{stopAt, cutAnswer, wholeAnswer};
 use commit_tests::faults::Letters;
 use commit_tests::finals::Finals;
+use fields::lent::clipped;
+use records::Answer;
+use records::Cut;
+use records::Fate;
+use records::Refusal;
+use records::Store;
+use records::Tx;
 use steps::answers::events_of;
 use steps::answers::record_of;
 use steps::ends::ending_at;
@@ -14,13 +21,6 @@ use steps::gate::Gate;
 use steps::gate::passed_at;
 use steps::none::no_events;
 use steps::none::no_record;
-use records::Answer;
-use records::Cut;
-use records::Fate;
-use records::Refusal;
-use records::Store;
-use records::Tx;
-use fields::lent::clipped;
 
 // All unchanged.
 pub fn unchanged(s: Store, x: Tx, why: Refusal) -> Answer

@@ -14,13 +14,13 @@ use super::planning;
 use commit_tests::faults::letters_of;
 use commit_tests::finals::final_writes;
 use journal::Journal;
-use steps::first::first_gate;
 use records::Answer;
 use records::Cut;
 use records::Schedule;
 use records::SlotPtr;
 use records::Store;
 use records::Tx;
+use steps::first::first_gate;
 
 // The answer of the steps, by the marks of the admission's walk; a cut only makes fewer of the stores.
 pub fn run(
@@ -31,7 +31,8 @@ pub fn run(
     cut: Cut,
     seen: &[u8; SlotPtr::PLACES],
 ) -> Answer
-    ensures { λ r. ⌜ (now (seen .entry) ≡ walk (atRows (s .heads)) (atPlaces (s .next)) .seen → fit s x ≡ true → r ≡ answer s x logged (runOf s x logged plan) cut) ⌝ }
+    ensures { λ r. ⌜ (now (seen .entry) ≡ walk (atRows (s .heads)) (atPlaces (s .next)) .seen → fit s x ≡ true
+        → r ≡ answer s x logged (runOf s x logged plan) cut) ⌝ }
 {
     let l = letters_of(plan);
     let finals = final_writes(x);

@@ -58,8 +58,10 @@ unfolding finals firstFrom
 laid-none x = record { few = omega arith; some = omega arith; left = refl; laid = refl }
 
 -- the next write, w, is final or not
-module _ (x : Tx) (i count : ℕ) (at : List Write) (w : Write) (so : Laid x i at count) (next : firstFrom (x .«write_count») (x .writes) i ≡ w ∷ firstFrom (x .«write_count») (x .writes) (i + 1)) where
-  pub laid-here : i < writeLimit → any (ofRow (w .row .0)) (firstFrom (x .«write_count») (x .writes) (i + 1)) ≡ false → Laid x (i + 1) (set at count w) (count + 1)
+module _ (x : Tx) (i count : ℕ) (at : List Write) (w : Write) (so : Laid x i at count)
+    (next : firstFrom (x .«write_count») (x .writes) i ≡ w ∷ firstFrom (x .«write_count») (x .writes) (i + 1)) where
+  pub laid-here : i < writeLimit → any (ofRow (w .row .0)) (firstFrom (x .«write_count») (x .writes) (i + 1)) ≡ false
+      → Laid x (i + 1) (set at count w) (count + 1)
   laid-here h e =
       let few = so .few in
       let left = so .left ∙ final-here w _ _ next e in
@@ -75,7 +77,8 @@ module _ (x : Tx) (i count : ℕ) (at : List Write) (w : Write) (so : Laid x i a
   laid-later e = let few = so .few in record { few = omega arith; some = so .some; left = so .left ∙ final-later w _ _ next e; laid = so .laid }
 
 -- all writes are looked at
-pub laid-all : (x : Tx) (i count : ℕ) (at : List Write) → Laid x i at count → firstFrom (x .«write_count») (x .writes) i ≡ [] → _≡_ {A = Finals} (record { at = at; count = count }) (finalsLaid x)
+pub laid-all : (x : Tx) (i count : ℕ) (at : List Write) → Laid x i at count → firstFrom (x .«write_count») (x .writes) i ≡ []
+    → _≡_ {A = Finals} (record { at = at; count = count }) (finalsLaid x)
 unfolding finalsLaid
 laid-all x i count at so over =
     let some = so .some in

@@ -8,18 +8,18 @@ ghost use Rattle.rules.specs.Tests.{indexReadConflict, rowLockConflict, seriali
 ghost use Rattle.fields.specs.Lent.{atRows, atPlaces, flagsAtPlaces, atActive, atStripes};
 ghost use Rattle.commit_tests.specs.Conflicts.{readConflictOf, baseMoved};
 use super::finals::Finals;
-use records::ReadRecord;
-use records::RowId;
-use records::SlotPtr;
-use records::Store;
-use records::Tx;
-use records::Txid;
 use fields::lent::clipped;
 use fields::lent::head_of;
 use fields::lent::stamp_at;
 use fields::lent::txid_at;
 use fields::locks::locked_by_another;
 use fields::txids::in_snapshot;
+use records::ReadRecord;
+use records::RowId;
+use records::SlotPtr;
+use records::Store;
+use records::Tx;
+use records::Txid;
 
 // 11: index_conflict is set or a recorded stamp differs.
 pub fn index_read_conflict(stamps: &[u64; Store::STRIPES], x: Tx) -> bool
@@ -49,7 +49,8 @@ pub fn has_row_lock_conflict<'a>(
     active: &'a [u64; Txid::ACTIVE],
     x: Tx,
 ) -> bool
-    ensures { λ r. ⌜ ((S : Store) → S .heads ≡ atRows (now (heads .entry)) → S .locked ≡ flagsAtPlaces (now (locked .entry)) → S .owner ≡ atPlaces (now (owner .entry)) → S .active ≡ atActive (now (active .entry)) → r ≡ rowLockConflict S x) ⌝ }
+    ensures { λ r. ⌜ ((S : Store) → S .heads ≡ atRows (now (heads .entry)) → S .locked ≡ flagsAtPlaces (now (locked .entry))
+        → S .owner ≡ atPlaces (now (owner .entry)) → S .active ≡ atActive (now (active .entry)) → r ≡ rowLockConflict S x) ⌝ }
 {
     let n = clipped(x.write_count, Tx::WRITES);
     let mut i: usize = 0;
@@ -74,7 +75,8 @@ fn read_conflict<'a>(
     end: Txid,
     e: ReadRecord,
 ) -> bool
-    ensures { λ r. ⌜ r ≡ readConflictOf (atPlaces (now (xmin .entry))) (atPlaces (now (xmax .entry))) (take count (atActive (now (snapshot .entry)))) (me .0) (end .0) e ⌝ }
+    ensures { λ r. ⌜ r ≡ readConflictOf (atPlaces (now (xmin .entry))) (atPlaces (now (xmax .entry)))
+        (take count (atActive (now (snapshot .entry)))) (me .0) (end .0) e ⌝ }
 {
     let creator = txid_at(xmin, e.ptr);
     if creator.0 != e.xmin.0 {

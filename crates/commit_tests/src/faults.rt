@@ -2,8 +2,8 @@
 
 ghost use mathlib.Core.Path.{_≡_};
 ghost use Rattle.commit_tests.specs.Striking.{letters};
-use records::Schedule;
 use fields::lent::clipped;
+use records::Schedule;
 
 // The letter that strikes at each step and its k, 0 for none: a commit reads its schedule once, and then asks these.
 pub struct Letters {

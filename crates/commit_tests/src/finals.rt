@@ -5,10 +5,10 @@ ghost use mathlib.Core.Bool.{not};
 ghost use Rattle.rules.specs.Lists.{any};
 ghost use Rattle.fields.specs.First.{firstFrom};
 ghost use Rattle.commit_tests.specs.FinalTurns.{ofRow, finalsLaid};
+use fields::lent::clipped;
 use records::RowId;
 use records::Tx;
 use records::Write;
-use fields::lent::clipped;
 
 // The final writes in list order: the first `count` places.
 pub struct Finals {

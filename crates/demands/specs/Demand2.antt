@@ -70,7 +70,8 @@ module _ (S : Store) (x : Tx) (logged : Bool) (plan : Schedule) where
       only-both clean (afterStamp S x logged plan) (release S x) f (release-kinds clean refl refl S x)
 
   -- a clean run poisons nothing
-  stays-healthy : S .poisoned ≡ false → Admitted S x plan → isDone (commit S x logged plan Uncut .refusal) ≡ true → commit S x logged plan Uncut .store .poisoned ≡ false
+  stays-healthy : S .poisoned ≡ false → Admitted S x plan → isDone (commit S x logged plan Uncut .refusal) ≡ true
+      → commit S x logged plan Uncut .store .poisoned ≡ false
   unfolding uncut
   stays-healthy h ok d =
       let u = whole S x logged plan Uncut ok isZero refl d in
@@ -82,7 +83,8 @@ module _ (S : Store) (x : Tx) (logged : Bool) (plan : Schedule) where
   conflicts-say =
       either _ _ (index-reads-say S x) (either _ _ (row-locks-say S x) (either _ _ (serialization-says S x) (write-bases-say S x)))
 
-  module _ (z : Sized S) (k : Keyed S) (ok : Admitted S x plan) (quiet : plan .count ≡ 0) (sound : S .poisoned ≡ false) (free : (unloggedWrites S x logged plan && S .bound) ≡ false) where
+  module _ (z : Sized S) (k : Keyed S) (ok : Admitted S x plan) (quiet : plan .count ≡ 0) (sound : S .poisoned ≡ false)
+      (free : (unloggedWrites S x logged plan && S .bound) ≡ false) where
     abbrev pub A : Answer
     A = commit S x logged plan Uncut
 

@@ -21,7 +21,8 @@ use Rattle.rules.specs.Commit.{End, runOf}
 use Rattle.rules.specs.Answer.{uncut, unchanged, commit}
 use Rattle.rules.specs.Recovery.{recovered, recover}
 use Rattle.basic_laws.specs.Cases.{by, and-true}
-use Rattle.run_laws.specs.Outcome.{unremoved, unpublished, unrecycled, unfinished, Outcome, done, stays, aborts, uninserted, uncalled, spoils, unstamped, outcome}
+use Rattle.run_laws.specs.Outcome.{unremoved, unpublished, unrecycled, unfinished, Outcome, done}
+use Rattle.run_laws.specs.Outcome.{stays, aborts, uninserted, uncalled, spoils, unstamped, outcome}
 use Rattle.statements.specs.Demands.{Demand3}
 use Rattle.statements.specs.Words.{before, survived, after, Safe, Admitted, shown, withNew, stands}
 use Rattle.run_laws.specs.FirstRows.{row-2, row-3, admitted, stay-not, abort-not, called-not}
@@ -52,7 +53,8 @@ module _ (S : Store) (x : Tx) (logged : Bool) (plan : Schedule) (z : Sized S) (k
   shown-before : (r : ℕ) → r < rows → shown S r ≡ before S r
   shown-before r lt = rw (recover-done S mends) (sym (recovery S z k mends .shows r lt))
 
-  both : (b : Bool) (r : ℕ) → r < rows → cond b (withNew (S .key) (S .has) (finals x) (shown S)) (shown S) r ≡ cond b (withNew (S .key) (S .has) (finals x) (before S) r) (before S r)
+  both : (b : Bool) (r : ℕ) → r < rows
+      → cond b (withNew (S .key) (S .has) (finals x) (shown S)) (shown S) r ≡ cond b (withNew (S .key) (S .has) (finals x) (before S) r) (before S r)
   both true r lt = with-same (S .key) (S .has) (finals x) (shown S) (before S) shown-before r lt
   both false r lt = shown-before r lt
 
@@ -67,7 +69,9 @@ module _ (S : Store) (x : Tx) (logged : Bool) (plan : Schedule) (z : Sized S) (k
       record {
         accepted = rw e;
         mended = rw e R;
-        rows = λ r lt. rw (e, why) (R .shows r lt ∙ P .shows r lt ∙ both (stands (runOf S x logged plan .end .refusal) && not (memb (x .txid .0) (activeTxids (D .active)))) r lt);
+        rows =
+            λ r lt. rw (e, why)
+            (R .shows r lt ∙ P .shows r lt ∙ both (stands (runOf S x logged plan .end .refusal) && not (memb (x .txid .0) (activeTxids (D .active)))) r lt);
       }
 
   -- the store that a commit leaves is some of its stores made
@@ -109,7 +113,8 @@ module _ (S : Store) (x : Tx) (logged : Bool) (plan : Schedule) (z : Sized S) (k
   passed-says _ _ _ (spoils p (unfinished k)) = refl
   passed-says _ _ _ (unstamped p k) = refl
 
-  pub survived-says : Admitted S x plan → (D : Store) → survived S x logged plan D ≡ (leb 21 (runOf S x logged plan .passed) && not (memb (x .txid .0) (activeTxids (D .active))))
+  pub survived-says : Admitted S x plan → (D : Store)
+      → survived S x logged plan D ≡ (leb 21 (runOf S x logged plan .passed) && not (memb (x .txid .0) (activeTxids (D .active))))
   unfolding uncut
   survived-says ok D = rw (ap (λ (a : Answer). a .refusal) (admitted S x logged plan Uncut ok), passed-says _ _ _ (outcome S x logged plan))
 

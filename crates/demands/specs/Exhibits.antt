@@ -42,16 +42,33 @@ pub record Meets (S : Store) (x : Tx) : Type 0 where
 
 -- and what there is to compute for it
 abbrev pub lengths : Store → List ℕ
-lengths S = length (S .heads) ∷ length (S .xmin) ∷ length (S .xmax) ∷ length (S .next) ∷ length (S .key) ∷ length (S .has) ∷ length (S .locked) ∷ length (S .owner) ∷ length (S .postings) ∷ length (S .«stripe_guards») ∷ length (S .«partition_guards») ∷ length (S .stamps) ∷ length (S .active) ∷ []
+lengths S =
+    length (S .heads) ∷ length (S .xmin) ∷ length (S .xmax) ∷ length (S .next) ∷ length (S .key) ∷ length (S .has) ∷ length (S .locked) ∷ length (S .owner)
+    ∷ length (S .postings) ∷ length (S .«stripe_guards») ∷ length (S .«partition_guards») ∷ length (S .stamps) ∷ length (S .active) ∷ []
 
 abbrev pub limits : List ℕ
 limits = rows ∷ places ∷ places ∷ places ∷ places ∷ places ∷ places ∷ places ∷ postingLimit ∷ stripes ∷ partitions ∷ stripes ∷ activeLimit ∷ []
 
-pub meets : (S : Store) (x : Tx) → lengths S ≡ limits → Keyed S → resting S ≡ true → fit S x ≡ true → scheduleFit noFaults ≡ true → memb (x .txid .0) (activeTxids (S .active)) ≡ true → Meets S x
+pub meets : (S : Store) (x : Tx) → lengths S ≡ limits → Keyed S → resting S ≡ true → fit S x ≡ true → scheduleFit noFaults ≡ true
+    → memb (x .txid .0) (activeTxids (S .active)) ≡ true → Meets S x
 meets S x e k r f p a =
     let at : (i : ℕ) → getD (lengths S) i 0 ≡ getD limits i 0 = λ i. ap (λ l. getD l i 0) e in
     record {
-      sized = record { heads = at 0; xmin = at 1; xmax = at 2; next = at 3; key = at 4; has = at 5; locked = at 6; owner = at 7; postings = at 8; «stripe_guards» = at 9; «partition_guards» = at 10; stamps = at 11; active = at 12 };
+      sized = record {
+        heads = at 0;
+        xmin = at 1;
+        xmax = at 2;
+        next = at 3;
+        key = at 4;
+        has = at 5;
+        locked = at 6;
+        owner = at 7;
+        postings = at 8;
+        «stripe_guards» = at 9;
+        «partition_guards» = at 10;
+        stamps = at 11;
+        active = at 12;
+      };
       keyed = k;
       ok = record { rests = r; fits = f; planned = p; active = a };
     }
@@ -75,7 +92,8 @@ unfolding morning spoilt again done written computing
 meets-spoilt = (meets (storeOf spoilt) (txOf spoilt) refl refl refl refl refl refl, refl, refl)
 
 -- demand 2: both answers, from unpoisoned stores that are not durably bound
-pub both-answers : (numberOf (commit (storeOf again) (txOf again) false noFaults Uncut .refusal) ≡ 0) × (numberOf (commit (storeOf beaten) (txOf beaten) false noFaults Uncut .refusal) ≡ 7)
+pub both-answers : (numberOf (commit (storeOf again) (txOf again) false noFaults Uncut .refusal) ≡ 0)
+    × (numberOf (commit (storeOf beaten) (txOf beaten) false noFaults Uncut .refusal) ≡ 7)
     × (storeOf again .poisoned ≡ false) × (storeOf again .bound ≡ false) × (storeOf beaten .poisoned ≡ false) × (storeOf beaten .bound ≡ false)
 unfolding morning beaten again done written computing
 both-answers = (refl, refl, refl, refl, refl, refl)

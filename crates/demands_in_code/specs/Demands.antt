@@ -38,7 +38,8 @@ answers-by-table S x logged plan cut z e =
 module _ (S : Store) (x : Tx) (logged : Bool) (z : Sized S) (k : Keyed S) where
   -- demand 2, of an answer that is the definition's
   pub commits-quietly : {plan : Schedule} {a : Answer} → plan ≡ noFaults → a ≡ commit S x logged plan Uncut
-      → (a ≡ commit S x logged noFaults Uncut) × (Quiet S x logged noFaults → ((numberOf (a .refusal) ≡ 0) ↔ (Conflicts S x → ⊥)) × (isDone (a .refusal) ≡ true → Committed S x a))
+      → (a ≡ commit S x logged noFaults Uncut)
+      × (Quiet S x logged noFaults → ((numberOf (a .refusal) ≡ 0) ↔ (Conflicts S x → ⊥)) × (isDone (a .refusal) ≡ true → Committed S x a))
   unfolding noFaults
   commits-quietly p e =
       (rw p at e, λ q. rw (e, p) (demand-2 S x logged noFaults z k q))

@@ -14,13 +14,13 @@ ghost use Rattle.statements.specs.Table.{firstRow, Answers};
 ghost use Rattle.statements.specs.Words.{Conflicts, Committed, Safe, Quiet};
 ghost use Rattle.statements.specs.NumbersSeen.{commitRows, doneRow};
 use commit::commit;
-use recovery::recover;
 use records::Answer;
 use records::Cut;
 use records::Mended;
 use records::Schedule;
 use records::Store;
 use records::Tx;
+use recovery::recover;
 
 // Demand 1: whatever arrives, the answer is that of the first row of "Numbers seen" that applies.
 pub fn commit_by_table(s: Store, x: Tx, logged: bool, plan: Schedule, cut: Cut) -> Answer
@@ -31,7 +31,8 @@ pub fn commit_by_table(s: Store, x: Tx, logged: bool, plan: Schedule, cut: Cut) 
 
 // Demand 2: no fault, no cut.
 pub fn commit_quietly(s: Store, x: Tx, logged: bool) -> Answer
-    ensures { λ a. ⌜ (a ≡ commit s x logged noFaults Uncut) × (Quiet s x logged noFaults → ((numberOf (a .refusal) ≡ 0) ↔ (Conflicts s x → ⊥)) × (isDone (a .refusal) ≡ true → Committed s x a)) ⌝ }
+    ensures { λ a. ⌜ (a ≡ commit s x logged noFaults Uncut)
+        × (Quiet s x logged noFaults → ((numberOf (a .refusal) ≡ 0) ↔ (Conflicts s x → ⊥)) × (isDone (a .refusal) ≡ true → Committed s x a)) ⌝ }
 {
     let plan = Schedule::none();
     commit(s, x, logged, plan, Cut::Uncut)

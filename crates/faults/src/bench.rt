@@ -1,14 +1,14 @@
 // The prepared store, and the open transaction whose commit has work at every step.
 
 use super::shown::rows_of;
-use replay_core::turn::turn;
-use script::Line;
 use records::Cut;
 use records::RowId;
 use records::Schedule;
 use records::Store;
 use records::Tx;
 use records::Value;
+use replay_core::turn::turn;
+use script::Line;
 
 // A store and a transaction; `refused` once a call was.
 pub struct Desk {

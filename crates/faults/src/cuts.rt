@@ -6,9 +6,9 @@ use super::recovered::sight_of;
 use super::shown;
 use commit::commit;
 use journal::Journal;
-use script::refusal::number_of;
 use records::Cut;
 use records::Schedule;
+use script::refusal::number_of;
 
 // As many as any commit makes.
 const MOST: usize = Journal::PUTS;

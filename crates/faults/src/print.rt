@@ -3,13 +3,13 @@
 use super::fate::fate_in;
 use super::shown;
 use super::trial::Trial;
-use resting::rest::resting;
+use fields::txids::is_active;
 use records::Answer;
 use records::Fate;
 use records::Fault;
 use records::RowId;
 use records::Txid;
-use fields::txids::is_active;
+use resting::rest::resting;
 
 fn word(s: &[u8]) {
     io::write_all(1, s);

@@ -4,10 +4,10 @@ use super::bench::Bench;
 use super::shown;
 use super::shown::compared;
 use super::shown::rows_of;
+use records::Store;
 use recovery::recover;
 use resting::rest::resting;
 use script::refusal::number_of;
-use records::Store;
 
 // After recovery: a store at rest that isn't poisoned has no guard, no doom and exact postings.
 pub fn sight_of(b: Bench, s: Store) -> u8 {

@@ -8,9 +8,9 @@ use super::shown;
 use super::trial::Trial;
 use super::trial::schedule_of;
 use commit::commit;
-use script::refusal::number_of;
 use records::Cut;
 use records::Fault;
+use script::refusal::number_of;
 
 // The fault alone is answered 2, with no store, and recovery shows the old rows.
 pub fn is_unfit(b: Bench, logged: bool, f: Fault) -> bool {

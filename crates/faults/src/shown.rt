@@ -1,10 +1,10 @@
 // What the rows show.
 
-use visibility::slots::value_at;
 use records::RowId;
 use records::SlotPtr;
 use records::Store;
 use records::Value;
+use visibility::slots::value_at;
 
 pub const OLD: u8 = 0;
 

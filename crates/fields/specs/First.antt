@@ -27,13 +27,15 @@ module _ {ℓ} {A : Type ℓ} where
   first-end count l i h = let long = length-take count l in drop-of-length-le (take count l) {i = i} (omega arith)
 
   -- the same, going back from i
-  pub first-back : (count : ℕ) (l : List A) (i : ℕ) (z : A) → 0 < i → i ≤ min count (length l) → firstFrom count l (i - 1) ≡ getD l (i - 1) z ∷ firstFrom count l i
+  pub first-back : (count : ℕ) (l : List A) (i : ℕ) (z : A) → 0 < i → i ≤ min count (length l)
+      → firstFrom count l (i - 1) ≡ getD l (i - 1) z ∷ firstFrom count l i
   first-back count l i z h k =
       let e : i - 1 + 1 ≡ i = omega arith in
       let b = first-next count l (i - 1) z (omega arith) in rw e at b
 
   -- the same of a lent array of n places
-  pub lent-next : (n count : ℕ) (z : A) (l : List A) (i : ℕ) → i < min count n → firstFrom count (array n z l) i ≡ getD l i z ∷ firstFrom count (array n z l) (i + 1)
+  pub lent-next : (n count : ℕ) (z : A) (l : List A) (i : ℕ) → i < min count n
+      → firstFrom count (array n z l) i ≡ getD l i z ∷ firstFrom count (array n z l) (i + 1)
   lent-next n count z l i h =
       let long = array-length n z l in first-next count (array n z l) i z (omega arith) ∙ rw (array-at n z l i (omega arith))
 

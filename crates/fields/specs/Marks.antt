@@ -52,7 +52,8 @@ mark-into p (true ∷ m) zero h = rw (add-zero p, le-ltb p p (omega arith), eq-e
 mark-into p (false ∷ m) zero h = rw (add-zero p) (sym (low-first p (suc p) m (omega arith)))
 mark-into p (b ∷ m) (suc i) h =
     let e : suc p + i ≡ p + suc i = omega arith in
-    let ih : markedFrom (suc p) (set m i true) ≡ into (p + suc i) (markedFrom (suc p) m) = mark-into (suc p) m i (le-of-suc-le-suc h) ∙ ap (λ (k : ℕ). into k (markedFrom (suc p) m)) e in
+    let ih : markedFrom (suc p) (set m i true) ≡ into (p + suc i) (markedFrom (suc p) m) =
+    mark-into (suc p) m i (le-of-suc-le-suc h) ∙ ap (λ (k : ℕ). into k (markedFrom (suc p) m)) e in
     go b ih
   where
     go : (b : Bool) → markedFrom (suc p) (set m i true) ≡ into (p + suc i) (markedFrom (suc p) m)
@@ -71,7 +72,8 @@ marks-in-order n (r ∷ l) h =
     let b = and-true (ltb r n) (all (λ q. ltb q n) l) h in
     let long = mark-length l (replicate n false) ∙ length-replicate n false in
     let z : 0 + r ≡ r = omega arith in
-    rw (mark-last l r (replicate n false)) (mark-into 0 (markAll l (replicate n false)) r (omega (arith, ltb-true r n (b .0), long)) ∙ rw (z, marks-in-order n l (b .1)))
+    rw (mark-last l r (replicate n false))
+    (mark-into 0 (markAll l (replicate n false)) r (omega (arith, ltb-true r n (b .0), long)) ∙ rw (z, marks-in-order n l (b .1)))
 
 -- how many are marked: no more than there are places
 pub marked-few : (p : ℕ) (m : List Bool) → length (markedFrom p m) ≤ length m

@@ -30,7 +30,8 @@ pub rows-end : (next heads seen : List ℕ) (r : ℕ) → length heads ≤ r →
 unfolding walkRows
 rows-end next heads seen r h = rw drop-of-length-le
 
-pub rows-cons : (next heads seen : List ℕ) (r : ℕ) → r < length heads → walkRows next (drop r heads) seen ≡ after next (drop (r + 1) heads) (walkRow places next seen (getD heads r 0))
+pub rows-cons : (next heads seen : List ℕ) (r : ℕ) → r < length heads
+    → walkRows next (drop r heads) seen ≡ after next (drop (r + 1) heads) (walkRow places next seen (getD heads r 0))
 unfolding walkRows
 rows-cons next heads seen r h = rw (drop-cons heads r 0 h, add-one)
 

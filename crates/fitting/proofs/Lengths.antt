@@ -9,4 +9,10 @@ use Rattle.fitting.specs.Fits.{SizedTx}
 
 pub sized-tx : (x : Tx) → Is T.the-row x (LL.vals T.the-type T′.the-laws x) → SizedTx x
 sized-tx x g =
-    record { snapshot = snapshot-long x g; writes = writes-long x g; reads = reads-long x g; «index_reads» = index-reads-long x g; savepoints = savepoints-long x g }
+    record {
+      snapshot = snapshot-long x g;
+      writes = writes-long x g;
+      reads = reads-long x g;
+      «index_reads» = index-reads-long x g;
+      savepoints = savepoints-long x g;
+    }

@@ -77,7 +77,12 @@ module _ (x : Tx) (z : SizedTx x) where
   counts-is : every (counts ++ (unused ∷ [])) ≡ countsFit x
   unfolding countsFit zeroWrite zeroRead zeroIndexRead
   counts-is =
-      rw (array-same writeLimit noWrite (x .writes) (z .writes), array-same readLimit noRead (x .reads) (z .reads), array-same indexReadLimit noIndexRead (x .«index_reads») (z .«index_reads»), array-same savepointLimit 0 (x .savepoints) (z .savepoints))
+      rw (
+        array-same writeLimit noWrite (x .writes) (z .writes),
+        array-same readLimit noRead (x .reads) (z .reads),
+        array-same indexReadLimit noIndexRead (x .«index_reads») (z .«index_reads»),
+        array-same savepointLimit 0 (x .savepoints) (z .savepoints),
+      )
 
   pub counts-fail : (k : ℕ) → getD (counts ++ (unused ∷ [])) k true ≡ false → false ≡ countsFit x
   counts-fail k e = sym (every-fails (counts ++ (unused ∷ [])) k e) ∙ counts-is
@@ -87,7 +92,8 @@ module _ (x : Tx) (z : SizedTx x) where
 
 -- what they say
 module _ (x : Tx) (h : countsFit x ≡ true) where
-  said : Each Holds (leb (x .«write_count») writeLimit ∷ leb (x .«read_count») readLimit ∷ leb (x .«index_read_count») indexReadLimit ∷ leb (x .«snapshot_count») activeLimit ∷ leb (x .«savepoint_count») savepointLimit ∷ [])
+  said : Each Holds (leb (x .«write_count») writeLimit ∷ leb (x .«read_count») readLimit ∷ leb (x .«index_read_count») indexReadLimit
+      ∷ leb (x .«snapshot_count») activeLimit ∷ leb (x .«savepoint_count») savepointLimit ∷ [])
   unfolding countsFit
   said = let e = every-each _ h in (e .0, (e .1 .0, (e .1 .1 .0, (e .1 .1 .1 .0, (e .1 .1 .1 .1 .0, tt)))))
 
@@ -150,7 +156,12 @@ module _ (xmin next : List ℕ) (clock : ℕ) (seen : List ℕ) (x : Tx) (z : Si
       let points = take (x .«savepoint_count») (array savepointLimit 0 (x .savepoints)) in
       rw (← non-falling-climb (λ p. leb p (x .«write_count»)) 0 points)
       (every-join lists (nonFalling 0 points) (all (λ p. leb p (x .«write_count»)) points) (leb (x .«snapshot_xmin» .0) (x .«snapshot_xmax» .0) ∷ present ∷ [])
-      ∙ rw (array-same writeLimit noWrite (x .writes) (z .writes), array-same readLimit noRead (x .reads) (z .reads), array-same indexReadLimit noIndexRead (x .«index_reads») (z .«index_reads»), array-same savepointLimit 0 (x .savepoints) (z .savepoints)))
+      ∙ rw (
+        array-same writeLimit noWrite (x .writes) (z .writes),
+        array-same readLimit noRead (x .reads) (z .reads),
+        array-same indexReadLimit noIndexRead (x .«index_reads») (z .«index_reads»),
+        array-same savepointLimit 0 (x .savepoints) (z .savepoints),
+      ))
 
   -- the test at place k fails; or all but the last hold
   pub fit-fails : (k : ℕ) → getD (tests ++ (present ∷ [])) k true ≡ false → false ≡ fitBy xmin next clock seen x

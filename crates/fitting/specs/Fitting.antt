@@ -107,7 +107,8 @@ module _ (r : ReadRecord) where
 
   pub read-fits : (p : ℕ) → p ≡ r .ptr .0 → r .row .0 < rows → 1 ≤ p → p ≤ slots → readFit r ≡ true
   read-fits p e h k l =
-      each-every (ltb (r .row .0) rows ∷ leb 1 (r .ptr .0) ∷ leb (r .ptr .0) slots ∷ []) (lt-ltb (r .row .0) rows h, (le-leb 1 (r .ptr .0) (omega arith), (le-leb (r .ptr .0) slots (omega arith), tt)))
+      each-every (ltb (r .row .0) rows ∷ leb 1 (r .ptr .0) ∷ leb (r .ptr .0) slots ∷ [])
+      (lt-ltb (r .row .0) rows h, (le-leb 1 (r .ptr .0) (omega arith), (le-leb (r .ptr .0) slots (omega arith), tt)))
 
 -- a write, by lent arrays and the marks of the walk
 unfoldable pub writeAt : List ℕ → List ℕ → List ℕ → ℕ → Write → Bool
@@ -151,9 +152,21 @@ module _ (xmin next seen : List ℕ) (t : ℕ) (w : Write) where
           ap (λ q. eqb q (w .base .0)) (sym (at next))
           ∙ sym
           (every-last
-          (ltb (w .row .0) rows ∷ leb (w .base .0) slots ∷ leb (w .new .0) slots ∷ used (atPlaces xmin) (w .new .0) ∷ not (on (atPlaces seen) (w .new .0)) ∷ eqb (getD (atPlaces xmin) (w .new .0) 0) t ∷ [])
-          (eqb (getD (atPlaces next) (w .new .0) 0) (w .base .0))
-          (lt-ltb (w .row .0) rows r, (le-leb (w .base .0) slots (omega arith), (le-leb (w .new .0) slots (omega arith), (nonzero-yes {n = getD (atPlaces xmin) (w .new .0) 0} (rw (at xmin) x), (rw (at seen, eq-eqb (getD seen i 0) 0 s), (rw (at xmin) (eq-eqb (getD xmin i 0) t m), tt)))))))
+          (ltb (w .row .0) rows ∷ leb (w .base .0) slots ∷ leb (w .new .0) slots ∷ used (atPlaces xmin) (w .new .0)
+          ∷ not (on (atPlaces seen) (w .new .0)) ∷ eqb (getD (atPlaces xmin) (w .new .0) 0) t ∷ [])
+          (eqb (getD (atPlaces next) (w .new .0) 0) (w .base .0)) (
+            lt-ltb (w .row .0) rows r,
+            (
+              le-leb (w .base .0) slots (omega arith),
+              (
+                le-leb (w .new .0) slots (omega arith),
+                (
+                  nonzero-yes {n = getD (atPlaces xmin) (w .new .0) 0} (rw (at xmin) x),
+                  (rw (at seen, eq-eqb (getD seen i 0) 0 s), (rw (at xmin) (eq-eqb (getD xmin i 0) t m), tt)),
+                ),
+              ),
+            ),
+          ))
 
 -- two writes with different new pointers, and one base if they are of one row
 unfoldable pub writesDiffer : Write → Write → Bool
@@ -199,10 +212,12 @@ module _ (k : ℕ) (l : List IndexRead) (i : ℕ) (w : Bool) (left : stripesLeft
     unfolding stripesLeft
     stripes-high g = rw (first-cons k indexReadLimit noIndexRead l i h m, le-ltb (getD l i noIndexRead .stripe) stripes (omega arith)) at left
 
-    pub stripes-twice : s < stripes → all (stripesDiffer (getD l i noIndexRead)) (drop (i + 1) (take k (array indexReadLimit noIndexRead l))) ≡ false → false ≡ w
+    pub stripes-twice : s < stripes → all (stripesDiffer (getD l i noIndexRead)) (drop (i + 1) (take k (array indexReadLimit noIndexRead l))) ≡ false
+        → false ≡ w
     unfolding stripesLeft
     stripes-twice g t = rw (first-cons k indexReadLimit noIndexRead l i h m, lt-ltb (getD l i noIndexRead .stripe) stripes (omega arith), t) at left
 
-    pub stripes-pass : s < stripes → all (stripesDiffer (getD l i noIndexRead)) (drop (i + 1) (take k (array indexReadLimit noIndexRead l))) ≡ true → stripesLeft k l (i + 1) ≡ w
+    pub stripes-pass : s < stripes → all (stripesDiffer (getD l i noIndexRead)) (drop (i + 1) (take k (array indexReadLimit noIndexRead l))) ≡ true
+        → stripesLeft k l (i + 1) ≡ w
     unfolding stripesLeft
     stripes-pass g t = rw (first-cons k indexReadLimit noIndexRead l i h m, lt-ltb (getD l i noIndexRead .stripe) stripes (omega arith), t) at left

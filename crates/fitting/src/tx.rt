@@ -12,6 +12,9 @@ ghost use Rattle.fields.specs.Lent.{array};
 ghost use Rattle.fields.specs.Climb.{climb};
 ghost use Rattle.fitting.specs.Fitting.{zeroWrite, zeroRead, zeroIndexRead, writeAt, writesDiffer, stripesDiffer};
 ghost use Rattle.fitting.specs.Fits.{fitBy};
+use fields::lent::place;
+use fields::lent::zeros_from;
+use fields::walk::walk_all;
 use records::IndexRead;
 use records::ReadRecord;
 use records::RowId;
@@ -20,9 +23,6 @@ use records::Store;
 use records::Tx;
 use records::Txid;
 use records::Write;
-use fields::lent::place;
-use fields::lent::zeros_from;
-use fields::walk::walk_all;
 
 // The writes from place n on are zero.
 fn no_write_from(writes: [Write; Tx::WRITES], n: usize) -> bool
@@ -95,7 +95,7 @@ fn no_savepoint_from(points: &[usize; Tx::SAVEPOINTS], n: usize) -> bool
     true
 }
 
-// Rows below 64, pointers 1 to 256.
+// Rows below the limit, pointers from 1 to the last slot.
 fn reads_fit(reads: [ReadRecord; Tx::READS], n: usize) -> bool
     requires { ⌜ n ≤ readLimit ⌝ }
     ensures { λ r. ⌜ r ≡ all readFit (take n (array readLimit noRead reads)) ⌝ }

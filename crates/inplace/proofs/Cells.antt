@@ -1,4 +1,5 @@
--- A function's plain parameters in memory, all at once, whatever their number: allocated, stored, read as operands, freed. Rules of the calculus of `types.Kit`.
+-- A function's plain parameters in memory, all at once, whatever their number: allocated, stored, read as operands, freed. Rules of the
+-- calculus of `types.Kit`.
 use mathlib.Core.Path.{_≡_, refl, sym, subst}
 use Prim.Native.Nat.{ℕ, zero, suc}
 use mathlib.Core.List.{List, [], _∷_}
@@ -11,7 +12,8 @@ use base.Logic.{SProp, ent, sep, wand, ex, emp, id⊢, via, assoc∗, assoc′, 
 use base.Fml.{Share, fat, froom, fdies}
 use prog.Wp.{Heap, Env, noLocal, read, evalOpds}
 use ghost.Atoms.{Atoms}
-use types.Kit.{Given, Item, ‵, raw, _⊛_, mean, ⋆, nth, del, pull, unpull, Goal, allocs, passes, frees, Seq, Step, step, _$_, _∵_, !, qed, move, use0, use1, use3, drop, split3, done}
+use types.Kit.{Given, Item, ‵, raw, _⊛_, mean, ⋆, nth, del, pull, unpull, Goal, allocs, passes}
+use types.Kit.{frees, Seq, Step, step, _$_, _∵_, !, qed, move, use0, use1, use3, drop, split3, done}
 use types.Run.{Finds, Opds, init, forget, alloc1, pass1, pass0, free1}
 use contract.Lifetimes.{Lfts}
 use Rattle.inplace.proofs.Datum.{Datum, ty, Data, Fit, machine, typed}
@@ -81,12 +83,15 @@ module _ {M : Type 1} (𝓤 : URA M) (H : Heap 𝓤) (A : Atoms 𝓤) (W : Given
       let Q : SProp 𝓤 = H .dies (ty D) (bs .0) in
       let Z : SProp 𝓤 = cells 𝓤 H n κs Ds (bs .1) (a .1) in
       let G : Val → SProp 𝓤 = λ u. evalOpds 𝓤 H E (operands (suc k) Ds) (λ us. Kt (u ∷ us)) in
-      let there : ent 𝓤 (sep 𝓤 (sep 𝓤 Q (sep 𝓤 Z R)) P) (sep 𝓤 Z (sep 𝓤 P (sep 𝓤 Q R))) = qed W ((raw Q ⊛ raw Z ⊛ raw R) ∷ raw P ∷ []) ∵ split3 ! $ move ! (1 ∷ 3 ∷ 0 ∷ 2 ∷ []) $ done ! in
-      let back : ent 𝓤 (sep 𝓤 Z (sep 𝓤 P (sep 𝓤 Q R))) (sep 𝓤 (sep 𝓤 (sep 𝓤 P Q) Z) R) = via 𝓤 _ (qed W (raw Z ∷ raw P ∷ raw Q ∷ raw R ∷ []) ∵ move ! (1 ∷ 2 ∷ 0 ∷ 3 ∷ []) $ done !) (via 𝓤 _ (assoc′ 𝓤 P Q (sep 𝓤 Z R)) (assoc′ 𝓤 (sep 𝓤 P Q) Z R)) in
+      let there : ent 𝓤 (sep 𝓤 (sep 𝓤 Q (sep 𝓤 Z R)) P) (sep 𝓤 Z (sep 𝓤 P (sep 𝓤 Q R))) =
+      qed W ((raw Q ⊛ raw Z ⊛ raw R) ∷ raw P ∷ []) ∵ split3 ! $ move ! (1 ∷ 3 ∷ 0 ∷ 2 ∷ []) $ done ! in
+      let back : ent 𝓤 (sep 𝓤 Z (sep 𝓤 P (sep 𝓤 Q R))) (sep 𝓤 (sep 𝓤 (sep 𝓤 P Q) Z) R) = via 𝓤 _
+      (qed W (raw Z ∷ raw P ∷ raw Q ∷ raw R ∷ []) ∵ move ! (1 ∷ 2 ∷ 0 ∷ 3 ∷ []) $ done !) (via 𝓤 _ (assoc′ 𝓤 P Q (sep 𝓤 Z R)) (assoc′ 𝓤 (sep 𝓤 P Q) Z R)) in
       let out : ent 𝓤 (sep 𝓤 (sep 𝓤 (sep 𝓤 P Q) Z) R) (sep 𝓤 P (sep 𝓤 Q (sep 𝓤 Z R))) = via 𝓤 _ (assoc∗ 𝓤 (sep 𝓤 P Q) Z R) (assoc∗ 𝓤 P Q (sep 𝓤 Z R)) in
       subst (λ (e : Ty × ℕ). ent 𝓤 (sep 𝓤 (cells 𝓤 H n κs (D ∷ Ds) bs a) R) (read 𝓤 H (e .0) (e .1) zero G)) (sym (s .0))
       (via 𝓤 (sep 𝓤 P (wand 𝓤 P (G v)))
-      (via 𝓤 _ out (monoR 𝓤 P (wandI 𝓤 (sep 𝓤 Q (sep 𝓤 Z R)) P (G v) (via 𝓤 _ there (read-all Ds (bs .1) (a .1) E (suc k) (s .1) (sep 𝓤 P (sep 𝓤 Q R)) (λ us. Kt (v ∷ us)) (via 𝓤 _ back h))))))
+      (via 𝓤 _ out (monoR 𝓤 P (wandI 𝓤 (sep 𝓤 Q (sep 𝓤 Z R)) P (G v)
+      (via 𝓤 _ there (read-all Ds (bs .1) (a .1) E (suc k) (s .1) (sep 𝓤 P (sep 𝓤 Q R)) (λ us. Kt (v ∷ us)) (via 𝓤 _ back h))))))
       (via 𝓤 (ex 𝓤 (λ (u : Val). sep 𝓤 (H .at fullShare (ty D) (bs .0) zero u) (wand 𝓤 (H .at fullShare (ty D) (bs .0) zero u) (G u))))
       (exI 𝓤 (λ (u : Val). sep 𝓤 (H .at fullShare (ty D) (bs .0) zero u) (wand 𝓤 (H .at fullShare (ty D) (bs .0) zero u) (G u))) v)
       (exI 𝓤 (λ (q : Share). ex 𝓤 (λ (u : Val). sep 𝓤 (H .at q (ty D) (bs .0) zero u) (wand 𝓤 (H .at q (ty D) (bs .0) zero u) (G u)))) fullShare)))
@@ -103,9 +108,11 @@ module _ {M : Type 1} {𝓤 : URA M} {H : Heap 𝓤} {A : Atoms 𝓤} {K : Type 
         → Step K W (raw (cells 𝓤 H n κs Ds bs a) ∷ Γ) g (raw (rooms 𝓤 H Ds bs) ∷ Γ) (passes (env 𝓤 H Ds bs E) (machine n κs Ds a) g)
     passes-all t [] bs a are E = pass0 t
     passes-all t (D ∷ Ds) bs a are E = step (λ s.
-        use1 W (‵ (froom (ty D) (bs .0) zero) ⊛ ‵ (fdies (ty D) (bs .0)) ⊛ raw (rooms 𝓤 H Ds (bs .1))) (assoc∗ 𝓤 (H .room (ty D) (bs .0) zero) (H .dies (ty D) (bs .0)) (rooms 𝓤 H Ds (bs .1))) $ split3 t $
+        use1 W (‵ (froom (ty D) (bs .0) zero) ⊛ ‵ (fdies (ty D) (bs .0)) ⊛ raw (rooms 𝓤 H Ds (bs .1)))
+        (assoc∗ 𝓤 (H .room (ty D) (bs .0) zero) (H .dies (ty D) (bs .0)) (rooms 𝓤 H Ds (bs .1))) $ split3 t $
         pass1 t (init t 0 refl (typed 𝓤 H A W D (a .0) _ (are .0))) $ move t (2 ∷ []) $ passes-all t Ds (bs .1) (a .1) (are .1) E $ move t (1 ∷ 2 ∷ 0 ∷ []) $
-        use3 W (raw (cells 𝓤 H n κs (D ∷ Ds) bs a)) (assoc′ 𝓤 (H .at fullShare (ty D) (bs .0) zero (D .val (a .0))) (H .dies (ty D) (bs .0)) (cells 𝓤 H n κs Ds (bs .1) (a .1))) $ s)
+        use3 W (raw (cells 𝓤 H n κs (D ∷ Ds) bs a))
+        (assoc′ 𝓤 (H .at fullShare (ty D) (bs .0) zero (D .val (a .0))) (H .dies (ty D) (bs .0)) (cells 𝓤 H n κs Ds (bs .1) (a .1))) $ s)
 
     pub frees-all : K → (Ds : List Datum) (bs : Blocks Ds) (a : Data n κs Ds) {E : Env 𝓤 H} {g : Goal 𝓤 H} {Γ : List (Item 𝓤)}
         → Step K W Γ (frees E g) (raw (cells 𝓤 H n κs Ds bs a) ∷ Γ) (frees (env 𝓤 H Ds bs E) g)
@@ -116,7 +123,8 @@ module _ {M : Type 1} {𝓤 : URA M} {H : Heap 𝓤} {A : Atoms 𝓤} {K : Type 
         forget t 0 refl $ free1 t $ frees-all t Ds (bs .1) (a .1) $ s)
 
     -- entry m of the context is their cells: they are the operands of a call
-    pub reads-all : K → (m : ℕ) (Ds : List Datum) (bs : Blocks Ds) (a : Data n κs Ds) {E : Env 𝓤 H} (k : ℕ) {Γ : List (Item 𝓤)} → nth 𝓤 H A m Γ ≡ raw (cells 𝓤 H n κs Ds bs a) → Stand 𝓤 H E k Ds bs
+    pub reads-all : K → (m : ℕ) (Ds : List Datum) (bs : Blocks Ds) (a : Data n κs Ds) {E : Env 𝓤 H} (k : ℕ) {Γ : List (Item 𝓤)}
+        → nth 𝓤 H A m Γ ≡ raw (cells 𝓤 H n κs Ds bs a) → Stand 𝓤 H E k Ds bs
         → Opds K W Γ E (operands k Ds) (machine n κs Ds a)
     reads-all t m Ds bs a {E} k {Γ} e s = record {
       go = λ Kt h.

@@ -103,7 +103,8 @@ silent-of : {X : Type 0} (e : Exit X) → e ≡ unchanged → (x : X) (f : Last 
 silent-of e p = subst (λ (z : Exit _). (x : _) (f : Last z x) → left z x f ≡ ftrue) (sym p) (λ x f. refl)
 
 -- its machine value is of its type
-pub typed : {M : Type 1} (𝓤 : URA M) (H : Heap 𝓤) (A : Atoms 𝓤) (W : Given 𝓤 H A) (D : Datum) (x : Of D) (v : Val) → Is (D .row) x (v ∷ []) → T (hasTy (ty D) v) × WT v
+pub typed : {M : Type 1} (𝓤 : URA M) (H : Heap 𝓤) (A : Atoms 𝓤) (W : Given 𝓤 H A) (D : Datum) (x : Of D) (v : Val) → Is (D .row) x (v ∷ [])
+    → T (hasTy (ty D) v) × WT v
 typed 𝓤 H A W D x v is = subst (λ (τs : List Ty). Typed τs (v ∷ [])) (D .one) (D .lawful 𝓤 H A W .typed x (v ∷ []) is) .0
 
 -- ---- a list of them, as the parameters of a signature with n lifetimes
@@ -160,7 +161,8 @@ module _ (n : ℕ) where
       makess (D ∷ Ds) = (D .makes 𝓤 H A W, makess Ds)
 
       -- what is had of them at exit is had for nothing
-      pub had : (Ds : List Datum) (a : Data Ds) (ws : Fins κs (slots Ds) (keeps Ds) a) → Fit Ds a → ent 𝓤 (emp 𝓤) (sem 𝓤 H A (hasOf κs (slots Ds) (keeps Ds) (stays Ds) a ws (valss (rowsAt Ds) (spells Ds) a)))
+      pub had : (Ds : List Datum) (a : Data Ds) (ws : Fins κs (slots Ds) (keeps Ds) a) → Fit Ds a
+          → ent 𝓤 (emp 𝓤) (sem 𝓤 H A (hasOf κs (slots Ds) (keeps Ds) (stays Ds) a ws (valss (rowsAt Ds) (spells Ds) a)))
       had [] a ws are = id⊢ 𝓤 (emp 𝓤)
       had (D ∷ Ds) a ws are = via 𝓤 _ (emp∗ 𝓤 (emp 𝓤)) (mono∗ 𝓤 (D .makes 𝓤 H A W (a .0) (vals D (a .0)) (are .0)) (had Ds (a .1) (ws .1) (are .1)))
 

@@ -6,7 +6,8 @@ use native.Mathlib.Numerals.{add-one}
 use native.Mathlib.Omega.{arith}
 use borrow.Author.Tests.{ne-eqb}
 use Rattle.rules.specs.Types.{Store}
-use Rattle.rules.specs.Puts.{Put, kStripe, kPartition, kInsert, kRemove, kXmax, kHead, kFree, kDrop, kStamp, kPoison, kDoom, kEnter, kClock, kXmin, kNext, kKey, kLock, apply, applyAll}
+use Rattle.rules.specs.Puts.{Put, kStripe, kPartition, kInsert, kRemove, kXmax, kHead, kFree, kDrop, kStamp}
+use Rattle.rules.specs.Puts.{kPoison, kDoom, kEnter, kClock, kXmin, kNext, kKey, kLock, apply, applyAll}
 use Rattle.run_laws.specs.GuardPuts.{applyAll-append}
 use Rattle.journal.specs.Journal.{putLimit, putAt, puts, Holds}
 
@@ -72,7 +73,8 @@ NoneOf k (x ∷ l) = NoneOf k l × (k ≡ x → ⊥)
 
 -- the kinds, falling
 abbrev pub kinds : List ℕ
-kinds = kLock ∷ kKey ∷ kNext ∷ kXmin ∷ kClock ∷ kEnter ∷ kDoom ∷ kPoison ∷ kStamp ∷ kDrop ∷ kFree ∷ kHead ∷ kXmax ∷ kRemove ∷ kInsert ∷ kPartition ∷ kStripe ∷ []
+kinds =
+    kLock ∷ kKey ∷ kNext ∷ kXmin ∷ kClock ∷ kEnter ∷ kDoom ∷ kPoison ∷ kStamp ∷ kDrop ∷ kFree ∷ kHead ∷ kXmax ∷ kRemove ∷ kInsert ∷ kPartition ∷ kStripe ∷ []
 
 -- a put whose kind is none changes nothing
 pub apply-other : (p : Put) (S : Store) → NoneOf (p .kind) kinds → S ≡ apply p S

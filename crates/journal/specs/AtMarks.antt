@@ -37,7 +37,8 @@ module _ (kind val : ℕ) (m : List Bool) (i : ℕ) where
   unfolding marked
   marked-skip limit h e = rw (drop-cons m i false h, e, add-one)
 
-  marked-take : (limit : ℕ) → 0 < limit → i < length m → getD m i false ≡ true → marked kind val limit i m ≡ put kind i val ∷ marked kind val (limit - 1) (i + 1) m
+  marked-take : (limit : ℕ) → 0 < limit → i < length m → getD m i false ≡ true
+      → marked kind val limit i m ≡ put kind i val ∷ marked kind val (limit - 1) (i + 1) m
   unfolding marked
   marked-take zero l h e = absurd (omega arith)
   marked-take (suc n) l h e = let d : suc n - 1 ≡ n = omega arith in rw (drop-cons m i false h, e, add-one, d)
@@ -60,7 +61,8 @@ module _ (kind val : ℕ) (m : List Bool) (i left : ℕ) (s : i < length m) {j a
   pass-mark e h = rw (marked-skip kind val m i left s e) h
 
 -- the journal keeps puts of such kinds at the places of an array
-marked-kept : (kind val i : ℕ) (m : List Bool) → kind ≤ lastKind → narrow kind ≡ false → i + length m ≤ placeBase → AllKept (map (λ p. put kind p val) (markedFrom i m))
+marked-kept : (kind val i : ℕ) (m : List Bool) → kind ≤ lastKind → narrow kind ≡ false → i + length m ≤ placeBase
+    → AllKept (map (λ p. put kind p val) (markedFrom i m))
 marked-kept kind val i [] k w h = tt
 marked-kept kind val i (true ∷ m) k w h = (kept-wide (put kind i val) k (omega arith) w, marked-kept kind val (suc i) m k w (omega arith))
 marked-kept kind val i (false ∷ m) k w h = marked-kept kind val (suc i) m k w (omega arith)
@@ -75,7 +77,8 @@ marked-add kind val limit m h k w p =
 abbrev pub freesAt : List Bool → List Put
 freesAt m = map putFree (markedFrom 0 m)
 
-pub frees-marked : {j after : List ℕ} {n r : ℕ} (limit : ℕ) (m : List Bool) → Pushes j n (marked kFree 0 limit 0 m) after r → Pushes j n (take limit (freesAt m)) after r
+pub frees-marked : {j after : List ℕ} {n r : ℕ} (limit : ℕ) (m : List Bool) → Pushes j n (marked kFree 0 limit 0 m) after r
+    → Pushes j n (take limit (freesAt m)) after r
 unfolding marked
 frees-marked limit m p = p
 
@@ -87,7 +90,8 @@ module _ (m : List Bool) (long : length m ≡ places) where
   frees-add limit p = pushes-add (kept limit) p
 
   -- with a drop behind them an abort's block, none left out
-  pub abort-add : (t : ℕ) {j after : List ℕ} {n r : ℕ} → Pushes j n (take places (freesAt m) ++ putDrop t ∷ []) after r → Adds j n (freesAt m ++ putDrop t ∷ []) after r
+  pub abort-add : (t : ℕ) {j after : List ℕ} {n r : ℕ} → Pushes j n (take places (freesAt m) ++ putDrop t ∷ []) after r
+      → Adds j n (freesAt m ++ putDrop t ∷ []) after r
   abort-add t p =
       let few = length-map (markedFrom 0 m) putFree in
       let all = take-all places (freesAt m) (omega (arith, marked-few 0 m)) in

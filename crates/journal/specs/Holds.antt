@@ -19,7 +19,8 @@ pub push-refused : (j : List ℕ) (n : ℕ) (p : Put) → takes n p ≡ false �
 unfolding pushed counted
 push-refused j n p f = record { words = rw f; count = rw f; long = λ t. let z : _≡_ {A = ℕ} 0 1 = cc in absurd (omega arith) }
 
-pub push-taken : (j after : List ℕ) (n : ℕ) (p : Put) → takes n p ≡ true → length j ≡ wordLimit → after ≡ set (set j (n + n) (p .kind * placeBase + p .at)) (n + n + 1) (p .val) → Pushed j n p after (n + 1)
+pub push-taken : (j after : List ℕ) (n : ℕ) (p : Put) → takes n p ≡ true → length j ≡ wordLimit
+    → after ≡ set (set j (n + n) (p .kind * placeBase + p .at)) (n + n + 1) (p .val) → Pushed j n p after (n + 1)
 unfolding pushed counted
 push-taken j after n p t l e = record { words = rw t e; count = rw t; long = λ _. l }
 
@@ -66,7 +67,8 @@ pub holds-count : {j : List ℕ} {n : ℕ} {ps : List Put} → Holds j n ps → 
 holds-count {j} {n} h = sym (puts-long j n) ∙ ap length (h .are)
 
 -- a put that is kept, pushed into a journal with room, stands last
-pub holds-push : {j after : List ℕ} {n r : ℕ} {p : Put} {ps : List Put} → Holds j n ps → n < putLimit → Kept p → Pushed j n p after r → Holds after r (ps ++ p ∷ [])
+pub holds-push : {j after : List ℕ} {n r : ℕ} {p : Put} {ps : List Put} → Holds j n ps → n < putLimit → Kept p → Pushed j n p after r
+    → Holds after r (ps ++ p ∷ [])
 unfolding puts pushed counted
 holds-push {j} {after} {n} {r} {p} {ps} h l k e =
     let yes : takes n p ≡ true = rw (lt-ltb n putLimit l, le-leb (p .kind) lastKind (k .kind), lt-ltb (p .at) placeBase (k .at)) in

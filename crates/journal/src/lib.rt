@@ -9,11 +9,11 @@ ghost use Rattle.journal.specs.Journal.{Pushed, puts, putLimit};
 pub mod at_marks;
 mod puts;
 
+use fields::lent::clipped;
 use records::RowId;
 use records::SlotPtr;
 use records::Store;
 use records::Tx;
-use fields::lent::clipped;
 
 pub struct Journal;
 

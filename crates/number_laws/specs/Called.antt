@@ -41,7 +41,13 @@ module _ (S : Store) (x : Tx) (logged : Bool) (plan : Schedule) (sized : Sized S
       let R = take k (map putRemove (reverse ds)) in
       let but = undone-but S x ok n k in
       by w
-      (λ e. rw (e, append-nil R, applyAll-append I (putPoison ∷ R) S, ← poison-first R (applyAll I S) (only-take postingKinds k (map putRemove (reverse ds)) (remove-kind postingKinds refl (reverse ds))), but))
+      (λ e. rw (
+        e,
+        append-nil R,
+        applyAll-append I (putPoison ∷ R) S,
+        ← poison-first R (applyAll I S) (only-take postingKinds k (map putRemove (reverse ds)) (remove-kind postingKinds refl (reverse ds))),
+        but,
+      ))
       (λ e. rw (e, applyAll-append I (R ++ putPoison ∷ []) S, applyAll-append R (putPoison ∷ []) (applyAll I S), but))
 
   -- 15 failed: guards around it
@@ -55,12 +61,14 @@ module _ (S : Store) (x : Tx) (logged : Bool) (plan : Schedule) (sized : Sized S
       let I = map putInsert ds in
       let U = rollingBack S x logged plan .puts in
       rw (take-map putInsert n (destinations (changes S x)), sym (append-assoc I U (release S x)))
-      (between-guards S x logged plan (ok .rests) (I ++ U) (only-both unguarded I U (insert-kind unguarded refl ds) (rollback-kinds unguarded S x logged plan refl refl false ds))
+      (between-guards S x logged plan (ok .rests) (I ++ U)
+      (only-both unguarded I U (insert-kind unguarded refl ds) (rollback-kinds unguarded S x logged plan refl refl false ds))
       ∙ ap (λ (c : Clean). applyAll (I ++ c .puts) S) (rollback-failed S x logged plan false ds e)
       ∙ undone-24 false n)
 
   pub ten-back : fails S x logged plan 24 ≡ false
-      → applyAll (guardsTaken S x logged plan ++ (part S x logged plan 15 (insertions S x) ++ (rollingBack S x logged plan .puts ++ leaving S x logged plan))) S ≡ S
+      → applyAll (guardsTaken S x logged plan ++ (part S x logged plan 15 (insertions S x) ++ (rollingBack S x logged plan .puts ++ leaving S x logged plan))) S
+      ≡ S
   unfolding insertions
   ten-back e =
       let n = count S x logged plan 15 in
@@ -71,7 +79,9 @@ module _ (S : Store) (x : Tx) (logged : Bool) (plan : Schedule) (sized : Sized S
 
   -- 16 failed: insertions, the poison of X and Q, rollback, abort, guards around them; w and u are the poison and the rollback
   abbrev run16 : Bool → Clean → List Put
-  run16 w u = afterInsert S x logged plan ++ (cond w (putPoison ∷ []) [] ++ (u .puts ++ (abortOrPoison S x logged plan (w || u .failed) .puts ++ leaving S x logged plan)))
+  run16 w u =
+      afterInsert S x logged plan
+      ++ (cond w (putPoison ∷ []) [] ++ (u .puts ++ (abortOrPoison S x logged plan (w || u .failed) .puts ++ leaving S x logged plan)))
 
   inside : Bool → Clean → Store
   inside w u = applyAll (abortOrPoison S x logged plan (w || u .failed) .puts) (applyAll (insertions S x ++ (cond w (putPoison ∷ []) [] ++ u .puts)) S)
@@ -82,13 +92,17 @@ module _ (S : Store) (x : Tx) (logged : Bool) (plan : Schedule) (sized : Sized S
       let I = insertions S x in
       let C = cond w (putPoison ∷ []) [] in
       let A = abortOrPoison S x logged plan (w || u .failed) .puts in
-      let first = only-both unguarded I (C ++ u .puts) (insertions-kind unguarded S x refl) (only-both unguarded C (u .puts) (only-if unguarded w (putPoison ∷ []) [] refl refl) h) in
+      let first = only-both unguarded I (C ++ u .puts) (insertions-kind unguarded S x refl)
+      (only-both unguarded C (u .puts) (only-if unguarded w (putPoison ∷ []) [] refl refl) h) in
       ap (λ (ps : List Put). applyAll ps S) (regroup (guardsTaken S x logged plan) I C (u .puts) A (release S x))
-      ∙ between-guards S x logged plan (ok .rests) ((I ++ (C ++ u .puts)) ++ A) (only-both unguarded (I ++ (C ++ u .puts)) A first (cleaning-kinds unguarded S x logged plan refl refl refl (w || u .failed)))
+      ∙ between-guards S x logged plan (ok .rests) ((I ++ (C ++ u .puts)) ++ A)
+      (only-both unguarded (I ++ (C ++ u .puts)) A first (cleaning-kinds unguarded S x logged plan refl refl refl (w || u .failed)))
       ∙ applyAll-append (I ++ (C ++ u .puts)) A S
 
   -- by what failed: the rollback, or not
-  all-but : (w : Bool) → applyAll (insertions S x ++ (cond w (putPoison ∷ []) [] ++ (take (count S x logged plan 24) (map putRemove (reverse (whole S x logged plan))) ++ poison w))) S
+  all-but : (w : Bool)
+      → applyAll (insertions S x
+      ++ (cond w (putPoison ∷ []) [] ++ (take (count S x logged plan 24) (map putRemove (reverse (whole S x logged plan))) ++ poison w))) S
       ≡ poisoned S x logged plan (with S x logged plan (left S x logged plan (whole S x logged plan)))
   unfolding insertions
   all-but w = rw (take-length (destinations (changes S x))) at (undone-24 w (length (destinations (changes S x))))
@@ -101,17 +115,23 @@ module _ (S : Store) (x : Tx) (logged : Bool) (plan : Schedule) (sized : Sized S
   after16 true false false = aborted S x logged plan (poisoned S x logged plan S)
   after16 false false false = aborted S x logged plan S
 
-  then-abort : (b j : Bool) {T U : Store} → fails S x logged plan 23 ≡ j → T ≡ U → applyAll (abortOrPoison S x logged plan b .puts) T ≡ cond j (applyAll (poison b) U) (aborted S x logged plan U)
+  then-abort : (b j : Bool) {T U : Store} → fails S x logged plan 23 ≡ j → T ≡ U
+      → applyAll (abortOrPoison S x logged plan b .puts) T ≡ cond j (applyAll (poison b) U) (aborted S x logged plan U)
   then-abort b true {T} {U} e h = ap (λ (a : Clean). applyAll (a .puts) T) (abort-failed S x logged plan b e) ∙ ap (applyAll (poison b)) h
   then-abort b false {T} {U} e h = ap (λ (a : Clean). applyAll (a .puts) T) (abort-done S x logged plan b e) ∙ ap (aborted S x logged plan) h
 
-  rolled-but : (w : Bool) → fails S x logged plan 24 ≡ true → inside w (rollback S x logged plan w (whole S x logged plan)) ≡ inside w (record { puts = take (count S x logged plan 24) (map putRemove (reverse (whole S x logged plan))) ++ poison w; tx = x; failed = true })
+  rolled-but : (w : Bool) → fails S x logged plan 24 ≡ true
+      → inside w (rollback S x logged plan w (whole S x logged plan))
+      ≡ inside w (record { puts = take (count S x logged plan 24) (map putRemove (reverse (whole S x logged plan))) ++ poison w; tx = x; failed = true })
   rolled-but w e = ap (inside w) (rollback-failed S x logged plan w (whole S x logged plan) e)
 
-  rolled : (w : Bool) → fails S x logged plan 24 ≡ false → inside w (rollback S x logged plan w (whole S x logged plan)) ≡ inside w (record { puts = map putRemove (reverse (whole S x logged plan)); tx = x; failed = false })
+  rolled : (w : Bool) → fails S x logged plan 24 ≡ false
+      → inside w (rollback S x logged plan w (whole S x logged plan))
+      ≡ inside w (record { puts = map putRemove (reverse (whole S x logged plan)); tx = x; failed = false })
   rolled w e = ap (inside w) (rollback-done S x logged plan w (whole S x logged plan) e)
 
-  cleaned : (w k j : Bool) → fails S x logged plan 24 ≡ k → fails S x logged plan 23 ≡ j → inside w (rollback S x logged plan w (whole S x logged plan)) ≡ after16 w k j
+  cleaned : (w k j : Bool) → fails S x logged plan 24 ≡ k → fails S x logged plan 23 ≡ j
+      → inside w (rollback S x logged plan w (whole S x logged plan)) ≡ after16 w k j
   unfolding inside insertions
   cleaned true true true ek ej = rolled-but true ek ∙ then-abort true true ej (all-but true)
   cleaned false true true ek ej = rolled-but false ek ∙ then-abort true true ej (all-but false)
@@ -126,7 +146,8 @@ module _ (S : Store) (x : Tx) (logged : Bool) (plan : Schedule) (sized : Sized S
   abbrev worst : Bool
   worst = worse S x logged plan
 
-  store16 : (w k j : Bool) → worst ≡ w → fails S x logged plan 24 ≡ k → fails S x logged plan 23 ≡ j → applyAll (run16 worst (undoing S x logged plan)) S ≡ after16 w k j
+  store16 : (w k j : Bool) → worst ≡ w → fails S x logged plan 24 ≡ k → fails S x logged plan 23 ≡ j
+      → applyAll (run16 worst (undoing S x logged plan)) S ≡ after16 w k j
   store16 w k j ew ek ej =
       run-inside worst (undoing S x logged plan) (rollback-kinds unguarded S x logged plan refl refl worst (whole S x logged plan))
       ∙ ap (λ (v : Bool). inside v (rollback S x logged plan v (whole S x logged plan))) ew
@@ -185,7 +206,8 @@ module _ (S : Store) (x : Tx) (logged : Bool) (plan : Schedule) (sized : Sized S
       (pick S x logged plan o (record { says = why; store = store16 false false false ew ek ej; tx = late-tx ∙ rw ej })))))
 
   -- .. and where it is not
-  passed16 : (n m : ℕ) (kind bad : Fate → Refusal) (w q : Bool) {gs : List Gate} {c : Run} {ws : List Row} {d : Row} → (logged && (w || q)) ≡ false → (logged && w) ≡ false → (logged && q) ≡ false
+  passed16 : (n m : ℕ) (kind bad : Fate → Refusal) (w q : Bool) {gs : List Gate} {c : Run} {ws : List Row} {d : Row}
+      → (logged && (w || q)) ≡ false → (logged && w) ≡ false → (logged && q) ≡ false
       → Match S x logged plan gs c ws d → Match S x logged plan gs c (called S x logged plan n m kind bad w q ws) d
   passed16 n m kind bad w q o ow oq rest =
       pass S x logged plan (rw o) (pass S x logged plan (rw o) (pass S x logged plan (rw o) (pass S x logged plan ow (pass S x logged plan oq rest))))
@@ -215,7 +237,9 @@ module _ (S : Store) (x : Tx) (logged : Bool) (plan : Schedule) (sized : Sized S
 
   module _ (gs : List Gate) (c : Run) (ws : List Row) (d : Row) where
     abbrev rows16 : List Row
-    rows16 = called S x logged plan 12 12 CallbackPanicked CallbackPanicked (at16 Q) (at16 P) (called S x logged plan 11 19 CallbackFailed CleanupFailed (at16 X) (at16 F) ws)
+    rows16 =
+        called S x logged plan 12 12 CallbackPanicked CallbackPanicked (at16 Q) (at16 P)
+        (called S x logged plan 11 19 CallbackFailed CleanupFailed (at16 X) (at16 F) ws)
 
     abbrev Beside : Type 0
     Beside = Match S x logged plan (record { when = gate16; then = called16 } ∷ gs) c rows16 d
@@ -237,8 +261,10 @@ module _ (S : Store) (x : Tx) (logged : Bool) (plan : Schedule) (sized : Sized S
         let ew : worst ≡ at16 X = rw nq (or-none (at16 X)) in
         let ep : panics S x logged plan ≡ false = rw (np, nq) in
         shut S x logged plan g
-        (passed16 12 12 CallbackPanicked CallbackPanicked (at16 Q) (at16 P) (rw (nq, np) (and-false logged)) (rw nq (and-false logged)) (rw np (and-false logged))
-        (taken16 11 19 CallbackFailed CleanupFailed (at16 X) (at16 F) k j ew (rw h (and-left true l)) (and-left (at16 X) l) refl refl (says16 false (at16 X) k j ep ew refl refl)))
+        (passed16 12 12 CallbackPanicked CallbackPanicked (at16 Q) (at16 P) (rw (nq, np) (and-false logged)) (rw nq (and-false logged))
+        (rw np (and-false logged))
+        (taken16 11 19 CallbackFailed CleanupFailed (at16 X) (at16 F) k j ew (rw h (and-left true l)) (and-left (at16 X) l) refl refl
+        (says16 false (at16 X) k j ep ew refl refl)))
 
     open16 : gate16 ≡ false → (logged && (at16 Q || at16 P)) ≡ false → (logged && at16 Q) ≡ false → (logged && at16 P) ≡ false
         → (logged && (at16 X || at16 F)) ≡ false → (logged && at16 X) ≡ false → (logged && at16 F) ≡ false → Match S x logged plan gs c ws d → Beside
@@ -258,5 +284,6 @@ module _ (S : Store) (x : Tx) (logged : Bool) (plan : Schedule) (sized : Sized S
         (λ nx. by (at16 F)
         (λ h. failed l (rw h (and-left true l)) nq np (rw (nx, h)))
         (λ nf. let g : gate16 ≡ false = rw (nf, nx, nq, np) (and-false logged) in
-        open16 g (rw (nq, np) (and-false logged)) (rw nq (and-false logged)) (rw np (and-false logged)) (rw (nx, nf) (and-false logged)) (rw nx (and-false logged)) (rw nf (and-false logged)) (m g))))))
+        open16 g (rw (nq, np) (and-false logged)) (rw nq (and-false logged)) (rw np (and-false logged)) (rw (nx, nf) (and-false logged))
+        (rw nx (and-false logged)) (rw nf (and-false logged)) (m g))))))
         (λ l. let g : gate16 ≡ false = rw l in open16 g (rw l) (rw l) (rw l) (rw l) (rw l) (rw l) (m g))

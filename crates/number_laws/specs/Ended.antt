@@ -30,7 +30,8 @@ module _ (S : Store) (x : Tx) (logged : Bool) (plan : Schedule) where
   unfolding abortOrPoison
   abort-failed b e = rw e
 
-  pub abort-done : (b : Bool) → fails S x logged plan 23 ≡ false → abortOrPoison S x logged plan b ≡ record { puts = abortPuts S (x .txid .0); tx = gone S x logged plan; failed = false }
+  pub abort-done : (b : Bool) → fails S x logged plan 23 ≡ false
+      → abortOrPoison S x logged plan b ≡ record { puts = abortPuts S (x .txid .0); tx = gone S x logged plan; failed = false }
   unfolding abortOrPoison
   abort-done b e = rw e
 
@@ -39,7 +40,8 @@ module _ (S : Store) (x : Tx) (logged : Bool) (plan : Schedule) where
   unfolding rollback
   rollback-failed b made e = rw e
 
-  pub rollback-done : (b : Bool) (made : List ℕ) → fails S x logged plan 24 ≡ false → rollback S x logged plan b made ≡ record { puts = map putRemove (reverse made); tx = x; failed = false }
+  pub rollback-done : (b : Bool) (made : List ℕ) → fails S x logged plan 24 ≡ false
+      → rollback S x logged plan b made ≡ record { puts = map putRemove (reverse made); tx = x; failed = false }
   unfolding rollback
   rollback-done b made e = rw e
 
@@ -96,12 +98,16 @@ module _ (S : Store) (x : Tx) (logged : Bool) (plan : Schedule) where
     then-only : {taken back : List Put} → Taken S x logged plan taken back → (ps : List Put) → applyAll (taken ++ (back ++ ps)) S ≡ applyAll ps S
     then-only {taken} {back} t ps = rw (sym (append-assoc taken back ps), applyAll-append (taken ++ back) ps S, given-back S x logged plan rest t)
 
-    pub die : (b : Bool) (kind other : Fate → Refusal) (found preparing : Bool) {n k m : ℕ} {taken back : List Put} {gs : List Gate} {c : Run} {ws : List Row} {d : Row}
+    pub die : (b : Bool) (kind other : Fate → Refusal) (found preparing : Bool) {n k m : ℕ} {taken back : List Put} {gs : List Gate} {c : Run}
+        {ws : List Row} {d : Row}
         → Taken S x logged plan taken back → (b ≡ false → Match gs c ws d)
         → Match (gate b (ran m (taken ++ (back ++ dying S x logged plan)) (abortEnd S x logged plan kind other found preparing)) ∷ gs) c
-        (row n (b && fails S x logged plan 23) (other Undone) (poisoned S x logged plan S) x ∷ row k b (kind Closed) (aborted S x logged plan S) (gone S x logged plan) ∷ ws) d
+        (row n (b && fails S x logged plan 23) (other Undone) (poisoned S x logged plan S) x
+        ∷ row k b (kind Closed) (aborted S x logged plan S) (gone S x logged plan) ∷ ws) d
     die b kind other found preparing t m =
         two b (fails S x logged plan 23)
-        (λ e. let a = abort-failed (S .poisoned) e in record { says = rw a; store = then-only t (dying S x logged plan) ∙ ap (λ (c : Clean). applyAll (c .puts) S) a ∙ poison-once S; tx = rw a })
-        (λ e. let a = abort-done (S .poisoned) e in record { says = rw a; store = then-only t (dying S x logged plan) ∙ ap (λ (c : Clean). applyAll (c .puts) S) a; tx = rw a })
+        (λ e. let a = abort-failed (S .poisoned) e in
+        record { says = rw a; store = then-only t (dying S x logged plan) ∙ ap (λ (c : Clean). applyAll (c .puts) S) a ∙ poison-once S; tx = rw a })
+        (λ e. let a = abort-done (S .poisoned) e in
+        record { says = rw a; store = then-only t (dying S x logged plan) ∙ ap (λ (c : Clean). applyAll (c .puts) S) a; tx = rw a })
         m

@@ -65,4 +65,5 @@ module _ (S : Store) (x : Tx) (logged : Bool) (plan : Schedule) where
   pub fate-poisons : Sized S → (cut : Cut) → let a = commit S x logged plan cut in spoils (fateIn (a .refusal)) ≡ true → a .store .poisoned ≡ true
   fate-poisons z cut h =
       let t = commit-told S x logged plan z cut .by-first in
-      ap (λ (T : Store). T .poisoned) (t .store) ∙ each Spoilt (commitRows S x logged plan cut) (doneRow S x logged plan) (rows-spoilt cut) no (rw (t .refusal) at h)
+      ap (λ (T : Store). T .poisoned) (t .store)
+      ∙ each Spoilt (commitRows S x logged plan cut) (doneRow S x logged plan) (rows-spoilt cut) no (rw (t .refusal) at h)

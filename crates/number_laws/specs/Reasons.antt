@@ -83,7 +83,8 @@ module _ (S : Store) (x : Tx) (logged : Bool) (plan : Schedule) where
   first-reasons cut = itself ▸ itself ▸ itself ▸ itself ▸ step-reasons cut
 
   -- every commit that isn't answered 0: its number is answered for a reason that the paper gives for that number
-  pub commit-because : Sized S → (cut : Cut) → let why = commit S x logged plan cut .refusal in isDone why ≡ false → getD (column S x logged plan cut) (numberOf why) false ≡ true
+  pub commit-because : Sized S → (cut : Cut)
+      → let why = commit S x logged plan cut .refusal in isDone why ≡ false → getD (column S x logged plan cut) (numberOf why) false ≡ true
   commit-because z cut h =
       let e = commit-told S x logged plan z cut .by-first .refusal in
       ⊎-elim

@@ -6,7 +6,8 @@ use mathlib.Core.Logic.{_↔_}
 use Prim.Native.Nat.{ℕ}
 use lib.ListN.{length}
 use lib.Dec.{ltb}
-use Rattle.rules.specs.Types.{Store, Tx, Schedule, Answer, Cut, Uncut, After, Refusal, StepFailed, PrepareFailed, PreparePanicked, Conflict, BoundDurably, FoundPoisoned, CleanupFailed}
+use Rattle.rules.specs.Types.{Store, Tx, Schedule, Answer, Cut, Uncut, After, Refusal, StepFailed, PrepareFailed}
+use Rattle.rules.specs.Types.{PreparePanicked, Conflict, BoundDurably, FoundPoisoned, CleanupFailed}
 use Rattle.basic_laws.specs.Cases.{by, and-true, or-false}
 use Rattle.rules.specs.Lists.{all, memb}
 use Rattle.rules.specs.Store.{activeTxids}
@@ -31,13 +32,16 @@ use Rattle.number_laws.specs.Stored.{seventeen, eighteen, nineteen, twen
 
 module _ (S : Store) (x : Tx) (logged : Bool) (plan : Schedule) (z : Sized S) where
   -- 15 on
-  from-15 : Admitted S x plan → Passed S x logged plan → Match S x logged plan (lateGates S x logged plan) (clean S x logged plan) (rows15 S x logged plan) (doneRow S x logged plan)
+  from-15 : Admitted S x plan → Passed S x logged plan
+      → Match S x logged plan (lateGates S x logged plan) (clean S x logged plan) (rows15 S x logged plan) (doneRow S x logged plan)
   from-15 ok p =
       let r = ok .rests in
       let is-ready = ready S x logged plan z ok p in
       two S x logged plan _ (fails S x logged plan 24)
-      (λ e. let b = rollback-failed S x logged plan false (some S x logged plan) e in record { says = rw b; store = ten S x logged plan z is-ready e; tx = refl })
-      (λ e. let b = rollback-done S x logged plan false (some S x logged plan) e in record { says = rw b; store = ten-back S x logged plan z is-ready e; tx = refl })
+      (λ e. let b = rollback-failed S x logged plan false (some S x logged plan) e in
+      record { says = rw b; store = ten S x logged plan z is-ready e; tx = refl })
+      (λ e. let b = rollback-done S x logged plan false (some S x logged plan) e in
+      record { says = rw b; store = ten-back S x logged plan z is-ready e; tx = refl })
       (λ _. sixteen S x logged plan z is-ready _ _ _ _ (λ _.
       one S x logged plan _ (record { says = refl; store = seventeen S x logged plan r; tx = refl }) (λ _.
       one S x logged plan _ (record { says = refl; store = eighteen S x logged plan r; tx = refl }) (λ _.
@@ -88,7 +92,11 @@ module _ (S : Store) (x : Tx) (logged : Bool) (plan : Schedule) (z : Sized S) wh
   unfolding uncut
   whole-told ok =
       let m = seen ok .are in
-      record { by-first = rw (run-gates S x logged plan) (record { refusal = m .says; «record» = ap (λ (why : Refusal). recordOf why x) (m .says); store = m .store; tx = m .tx }) }
+      record {
+        by-first =
+            rw (run-gates S x logged plan)
+            (record { refusal = m .says; «record» = ap (λ (why : Refusal). recordOf why x) (m .says); store = m .store; tx = m .tx });
+      }
 
   steps-told : Admitted S x plan → (cut : Cut) → Told (answer S x logged (runOf S x logged plan) cut) (cutRow S x logged plan cut ∷ stepRows S x logged plan)
   unfolding cutOff recordOf
@@ -118,7 +126,8 @@ module _ (S : Store) (x : Tx) (logged : Bool) (plan : Schedule) (z : Sized S) wh
   rows-same cut = refl
 
   -- a number is answered exactly where one of its rows applies and none before it does; 0 where none applies
-  pub commit-when : (cut : Cut) (n : ℕ) → (numberOf (commit S x logged plan cut .refusal) ≡ n) ↔ Reason n [] (commitRows S x logged plan cut) (doneRow S x logged plan)
+  pub commit-when : (cut : Cut) (n : ℕ)
+      → (numberOf (commit S x logged plan cut .refusal) ≡ n) ↔ Reason n [] (commitRows S x logged plan cut) (doneRow S x logged plan)
   commit-when cut n =
       rw (commit-told cut .by-first .refusal)
       (told-by n [] (commitRows S x logged plan cut) (doneRow S x logged plan) (rows-same cut) refl tt)

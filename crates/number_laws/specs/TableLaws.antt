@@ -65,7 +65,8 @@ abbrev pub Says : (ℕ → Bool) → Row → Type 0
 Says P r = r .when ≡ true → P (r .number) ≡ true
 
 -- so it holds of the number answered, or no row applied
-pub said : (P : ℕ → Bool) (rs : List Row) (d : Row) → all same rs ≡ true → Each (Says P) rs → (firstRow rs d .says ≡ d .says) ⊎ (P (numberOf (firstRow rs d .says)) ≡ true)
+pub said : (P : ℕ → Bool) (rs : List Row) (d : Row) → all same rs ≡ true → Each (Says P) rs
+    → (firstRow rs d .says ≡ d .says) ⊎ (P (numberOf (firstRow rs d .says)) ≡ true)
 said P _ d a end = inl refl
 said P _ d a (_▸_ {r = r} {rs = rs} h t) =
     let c = and-true (same r) (all same rs) a in

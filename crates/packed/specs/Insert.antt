@@ -73,7 +73,8 @@ module _ (v n m i : ℕ) (x : List ℕ) (first : m ≡ min n (length x)) (place 
       = rw (← (take-within n m x first)) (into-there v (take m x) (omega (arith, within-first)) (rw (← place, getD-take m x i 0 h) e)) in
       record { at = rw there q; count = rw there (sym within-first) }
 
-  pub insert-new : {y : List ℕ} → (i < m → getD x i 0 ≡ v → ⊥) → y ≡ pad (length x) 0 (take i x ++ v ∷ slice i m x) → Packed (into v (take n x)) (length x) y (m + 1)
+  pub insert-new : {y : List ℕ} → (i < m → getD x i 0 ≡ v → ⊥) → y ≡ pad (length x) 0 (take i x ++ v ∷ slice i m x)
+      → Packed (into v (take n x)) (length x) y (m + 1)
   insert-new h q =
       let inside = place-within in
       let missing : ahead v (take m x) < length (take m x) → getD (take m x) (ahead v (take m x)) 0 ≡ v → ⊥

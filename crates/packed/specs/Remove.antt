@@ -17,7 +17,15 @@ module _ (v : ℕ) (x : List ℕ) (k i m : ℕ) (kept : k ≤ i) (lt : i < m) (l
       take (k + 1) (set x k (getD x i 0)) ++ without v (slice (i + 1) m (set x k (getD x i 0))) ≡ take k x ++ without v (slice i m x)
   keep-turn n =
       let y = getD x i 0 in
-      rw (slice-cons i m x 0 lt le, ne-eqb v y (λ q. n (sym q)), add-one, add-one, take-suc-set x k y (omega arith), take-set-lt m x k y (omega arith), drop-set-lt (suc i) (take m x) k y (omega arith))
+      rw (
+        slice-cons i m x 0 lt le,
+        ne-eqb v y (λ q. n (sym q)),
+        add-one,
+        add-one,
+        take-suc-set x k y (omega arith),
+        take-set-lt m x k y (omega arith),
+        drop-set-lt (suc i) (take m x) k y (omega arith),
+      )
       (append-assoc (take k x) (y ∷ []) (without v (slice (suc i) m x)))
 
   pub skip-turn : getD x i 0 ≡ v → take k x ++ without v (slice (i + 1) m x) ≡ take k x ++ without v (slice i m x)

@@ -61,7 +61,8 @@ unfolding partitionGuards
 partitions-aside x v ps T o = all-aside unguarded (λ i. putPartition i v) (λ i. partition-aside i v) (guardedPartitions x) ps T o
 
 -- two lists of puts that stand aside, as one
-both-aside : (gs qs ps : List Put) (T : Store) → ((U : Store) → applyAll gs (applyAll ps U) ≡ applyAll ps (applyAll gs U)) → ((U : Store) → applyAll qs (applyAll ps U) ≡ applyAll ps (applyAll qs U))
+both-aside : (gs qs ps : List Put) (T : Store) → ((U : Store) → applyAll gs (applyAll ps U) ≡ applyAll ps (applyAll gs U))
+    → ((U : Store) → applyAll qs (applyAll ps U) ≡ applyAll ps (applyAll qs U))
     → applyAll (gs ++ qs) (applyAll ps T) ≡ applyAll ps (applyAll (gs ++ qs) T)
 both-aside gs qs ps T g q =
     applyAll-append gs qs (applyAll ps T) ∙ ap (applyAll qs) (g T) ∙ q (applyAll gs T) ∙ ap (applyAll ps) (sym (applyAll-append gs qs T))

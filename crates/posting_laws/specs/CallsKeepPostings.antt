@@ -18,8 +18,10 @@ use Rattle.rules.specs.Chains.{walk}
 use Rattle.rules.specs.Admitted.{resting}
 use Rattle.rules.specs.Fit.{fit}
 use Rattle.rules.specs.Numbers.{numberOf, Try, refuse, tries, isDone}
-use Rattle.rules.specs.Types.{NotResting, FoundPoisoned, ActiveFull, ClockAtEnd, RowTooHigh, LockedByAnother, NoHead, WritesFull, SlotsFull, Unfit, NotActive, Open, Closed}
-use Rattle.rules.specs.Puts.{Put, kInsert, kRemove, kFree, kDrop, kPoison, kDoom, kEnter, kClock, kXmin, kNext, kKey, kLock, applyAll, takeSlot, putEnter, putClock, putLock, abortPuts}
+use Rattle.rules.specs.Types.{NotResting, FoundPoisoned, ActiveFull, ClockAtEnd, RowTooHigh, LockedByAnother}
+use Rattle.rules.specs.Types.{NoHead, WritesFull, SlotsFull, Unfit, NotActive, Open, Closed}
+use Rattle.rules.specs.Puts.{Put, kInsert, kRemove, kFree, kDrop, kPoison, kDoom, kEnter, kClock, kXmin}
+use Rattle.rules.specs.Puts.{kNext, kKey, kLock, applyAll, takeSlot, putEnter, putClock, putLock, abortPuts}
 use Rattle.rules.specs.Calls.{admitsHealthy, lockedByAnother, begin, write, rowLock, abort, lowestFree, baseOf, admits}
 use Rattle.rules.specs.Answer.{commit}
 use Rattle.run_laws.specs.OnlyKinds.{only, kept, is-not}
@@ -35,17 +37,20 @@ use Rattle.posting_laws.specs.StaysInForm.{leave-posts}
 use Rattle.posting_laws.specs.Formed.{commit-formed}
 
 -- puts that neither insert nor remove keep the form; those that don't poison keep poison and doom
-form-kept : (ks : List ℕ) → memb kInsert ks ≡ false → memb kRemove ks ≡ false → (ps : List Put) (T : Store) → only ks ps ≡ true → postingsInForm (applyAll ps T) ≡ postingsInForm T
+form-kept : (ks : List ℕ) → memb kInsert ks ≡ false → memb kRemove ks ≡ false → (ps : List Put) (T : Store) → only ks ps ≡ true
+    → postingsInForm (applyAll ps T) ≡ postingsInForm T
 form-kept ks i r = kept postingsInForm ks (λ p T m. leave-posts p T (is-not ks kInsert i p m) (is-not ks kRemove r p m) .1)
 
-poisoned-kept : (ks : List ℕ) → memb kPoison ks ≡ false → memb kDoom ks ≡ false → (ps : List Put) (T : Store) → only ks ps ≡ true → applyAll ps T .poisoned ≡ T .poisoned
+poisoned-kept : (ks : List ℕ) → memb kPoison ks ≡ false → memb kDoom ks ≡ false → (ps : List Put) (T : Store) → only ks ps ≡ true
+    → applyAll ps T .poisoned ≡ T .poisoned
 poisoned-kept ks p d = kept (λ T. T .poisoned) ks (λ q T m. rw (is-not ks kPoison p q m, is-not ks kDoom d q m))
 
 doomed-kept : (ks : List ℕ) → memb kDoom ks ≡ false → (ps : List Put) (T : Store) → only ks ps ≡ true → applyAll ps T .doomed ≡ T .doomed
 doomed-kept ks d = kept (λ T. T .doomed) ks (λ q T m. rw (is-not ks kDoom d q m))
 
 -- such puts keep the index where they keep the postings exact
-module _ (ks : List ℕ) (i : memb kInsert ks ≡ false) (r : memb kRemove ks ≡ false) (p : memb kPoison ks ≡ false) (d : memb kDoom ks ≡ false) (ps : List Put) (T : Store) (o : only ks ps ≡ true) where
+module _ (ks : List ℕ) (i : memb kInsert ks ≡ false) (r : memb kRemove ks ≡ false) (p : memb kPoison ks ≡ false) (d : memb kDoom ks ≡ false)
+    (ps : List Put) (T : Store) (o : only ks ps ≡ true) where
   indexed-then : Indexed T → (applyAll ps T .poisoned ≡ false → Exact (applyAll ps T)) → Indexed (applyAll ps T)
   indexed-then h e = record {
     form = form-kept ks i r ps T o ∙ h .form;
@@ -76,7 +81,8 @@ indexed-kept ps T o h =
 pub begin-indexed : (S : Store) → resting S ≡ true → Indexed (begin S .store)
 unfolding begin
 begin-indexed S r =
-    let why = tries (refuse (not (resting S)) (NotResting Open) ∷ refuse (S .poisoned) (FoundPoisoned Open) ∷ refuse (leb activeLimit (length (activeTxids (S .active)))) (ActiveFull Open) ∷ refuse (leb clockEnd (S .clock)) (ClockAtEnd Open) ∷ []) in
+    let why = tries (refuse (not (resting S)) (NotResting Open) ∷ refuse (S .poisoned) (FoundPoisoned Open)
+    ∷ refuse (leb activeLimit (length (activeTxids (S .active)))) (ActiveFull Open) ∷ refuse (leb clockEnd (S .clock)) (ClockAtEnd Open) ∷ []) in
     let h = indexed S r in
     by (isDone why) (λ e. rw e (indexed-kept (putEnter (S .clock) ∷ putClock (suc (S .clock)) ∷ []) S refl h)) (λ e. rw e h)
 
@@ -85,7 +91,8 @@ pub lock-indexed : (S : Store) (x : Tx) (r : ℕ) → resting S ≡ true → Ind
 unfolding rowLock
 lock-indexed S x r rests =
     let p = getD (S .heads) r 0 in
-    let why = admitsHealthy S x (refuse (leb rows r) (RowTooHigh Open) ∷ refuse (lockedByAnother S (x .txid .0) p) (LockedByAnother Open) ∷ refuse (eqb p 0) (NoHead Open) ∷ []) in
+    let why = admitsHealthy S x
+    (refuse (leb rows r) (RowTooHigh Open) ∷ refuse (lockedByAnother S (x .txid .0) p) (LockedByAnother Open) ∷ refuse (eqb p 0) (NoHead Open) ∷ []) in
     let h = indexed S rests in
     by (isDone why) (λ e. rw e (indexed-kept (putLock p (x .txid .0) ∷ []) S refl h)) (λ e. rw e h)
 

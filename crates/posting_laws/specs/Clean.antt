@@ -57,7 +57,8 @@ module _ (S : Store) (x : Tx) (logged : Bool) (plan : Schedule) (ok : Ready S x)
   -- step 19 frees no head, and the rest of the run touches neither postings nor heads nor keys
   recycled-exact : Exact (applyAll (recycling S x) (applyAll moves S))
   unfolding recycling
-  recycled-exact = exact-freed (recycled S x) (applyAll moves S) (λ h m. spared S x (ok .sized) (ok .rests) h (rw (changed-heads S x ok) at m)) (changed-exact S x ok)
+  recycled-exact =
+      exact-freed (recycled S x) (applyAll moves S) (λ h m. spared S x (ok .sized) (ok .rests) h (rw (changed-heads S x ok) at m)) (changed-exact S x ok)
 
   -- "the postings are exactly (key, row) of each head with a value", after all stores of a clean commit
   pub postings-exact : Exact (applyAll (afterStamp S x logged plan ++ release S x) S)
@@ -65,6 +66,12 @@ module _ (S : Store) (x : Tx) (logged : Bool) (plan : Schedule) (ok : Ready S x)
       let G = guardsTaken S x logged plan in
       let C = recycling S x in
       let T = applyAll moves S in
-      let spares = only-both unguarded moves (C ++ closes) moving (only-both unguarded C closes (recycling-kind unguarded S x refl) (stamping-kind unguarded S x refl)) in
-      rw (regroup-all G (insertions S x) (removals S x) (publication x) C (stamping S x) (release S x) (putDrop t), between-guards S x logged plan (ok .rests) (moves ++ (C ++ closes)) spares, applyAll-append moves (C ++ closes) S, applyAll-append C closes T)
+      let spares = only-both unguarded moves (C ++ closes) moving
+      (only-both unguarded C closes (recycling-kind unguarded S x refl) (stamping-kind unguarded S x refl)) in
+      rw (
+        regroup-all G (insertions S x) (removals S x) (publication x) C (stamping S x) (release S x) (putDrop t),
+        between-guards S x logged plan (ok .rests) (moves ++ (C ++ closes)) spares,
+        applyAll-append moves (C ++ closes) S,
+        applyAll-append C closes T,
+      )
       (exact-kept closing refl refl refl refl refl closes (applyAll C T) (stamping-kind closing S x refl) recycled-exact)

@@ -23,7 +23,8 @@ use Rattle.basic_laws.specs.Rearranged.{or-none}
 use Rattle.basic_laws.specs.HeadPostings.{heads-rising, heads-length}
 use Rattle.posting_laws.specs.HeadsTold.{same-value, value-same, told-by-rows, head-member}
 use Rattle.posting_laws.specs.RestingPostings.{Exact, in-form, exact}
-use Rattle.posting_laws.specs.Posted.{posted, posted-of, posted-own, intoAll, withoutAll, mem-intoAll, mem-withoutAll, rising-intoAll, rising-withoutAll, intoAll-length, form-rising, inserted, removed}
+use Rattle.posting_laws.specs.Posted.{posted, posted-of, posted-own, intoAll, withoutAll, mem-intoAll, mem-withoutAll}
+use Rattle.posting_laws.specs.Posted.{rising-intoAll, rising-withoutAll, intoAll-length, form-rising, inserted, removed}
 use Rattle.posting_laws.specs.Written.{pick, pick-map, changed, mem-side}
 use Rattle.posting_laws.specs.Undone.{Ready, rows-fit, bases, once, room}
 use Rattle.run_laws.specs.PublishedChains.{newHeads, new-heads-long, publish-only, publish-heads}
@@ -59,7 +60,8 @@ module _ (key : List ℕ) (has : List Bool) (heads : List ℕ) (k r : ℕ) where
   by-write (w ∷ ws) a =
       let b = and-true (eqb (getD heads (w .row .0) 0) (w .base .0)) (all (λ w. eqb (getD heads (w .row .0) 0) (w .base .0)) ws) a in
       by (eqb r (w .row .0))
-      (λ e. rw (e, eqb-true r (w .row .0) e, eqb-true (getD heads (w .row .0) 0) (w .base .0) (b .0)) (renewed (valueAt key has (w .base .0)) (valueAt key has (w .new .0)) (Key k)))
+      (λ e. rw (e, eqb-true r (w .row .0) e, eqb-true (getD heads (w .row .0) 0) (w .base .0) (b .0))
+      (renewed (valueAt key has (w .base .0)) (valueAt key has (w .new .0)) (Key k)))
       (λ e. rw e (by-write ws (b .1)))
 
 module _ (S : Store) (x : Tx) (ok : Ready S x) where
@@ -86,18 +88,33 @@ module _ (S : Store) (x : Tx) (ok : Ready S x) where
       let hs = newHeads ws heads in
       let long = new-heads-long ws heads ∙ ok .sized .heads in
       let was : memb p (postingsOf S) ≡ old key has heads k r
-      = rw (exact S (ok .rests) (ok .healthy), head-member key has heads (omega (arith, ok .sized .heads)) k r lt, lt-ltb r (length heads) (omega (arith, ok .sized .heads))) in
+      = rw (
+        exact S (ok .rests) (ok .healthy),
+        head-member key has heads (omega (arith, ok .sized .heads)) k r lt,
+        lt-ltb r (length heads) (omega (arith, ok .sized .heads)),
+      ) in
       let now : memb p (headPostings key has 0 hs) ≡ pick (λ w. carries key has (w .new .0) k) (old key has heads k r) r ws
-      = rw (head-member key has hs (omega (arith, long)) k r lt, lt-ltb r (length hs) (omega (arith, long)), new-heads-at rows ws heads r (ok .sized .heads) (rows-fit S x ok) (once S x ok))
+      = rw (
+        head-member key has hs (omega (arith, long)) k r lt,
+        lt-ltb r (length hs) (omega (arith, long)),
+        new-heads-at rows ws heads r (ok .sized .heads) (rows-fit S x ok) (once S x ok),
+      )
       (pick-map (λ h. carries key has h k) (λ w. w .new .0) (getD heads r 0) r ws) in
       mem-withoutAll ss (intoAll ds (postingsOf S)) p
-      ∙ rw (mem-intoAll ds (postingsOf S) p, was, mem-side key has (λ c. c .before) k r ws lt (rows-fit S x ok) (once S x ok), mem-side key has (λ c. c .after) k r ws lt (rows-fit S x ok) (once S x ok))
+      ∙ rw (
+        mem-intoAll ds (postingsOf S) p,
+        was,
+        mem-side key has (λ c. c .before) k r ws lt (rows-fit S x ok) (once S x ok),
+        mem-side key has (λ c. c .after) k r ws lt (rows-fit S x ok) (once S x ok),
+      )
       (by-write key has heads k r ws (bases S x ok))
       ∙ sym now
 
   -- .. and so all of them
   new-postings : newPostings ≡ headPostings (S .key) (S .has) 0 (newHeads (finals x) (S .heads))
-  new-postings = told-by-rows newPostings (headPostings (S .key) (S .has) 0 (newHeads (finals x) (S .heads))) new-rising (heads-rising (S .key) (S .has) 0 (newHeads (finals x) (S .heads))) new-member
+  new-postings =
+      told-by-rows newPostings (headPostings (S .key) (S .has) 0 (newHeads (finals x) (S .heads))) new-rising
+      (heads-rising (S .key) (S .has) 0 (newHeads (finals x) (S .heads))) new-member
 
   -- "at most 128", on the way too
   new-length : length (intoAll (destinations (changes S x)) (postingsOf S)) ≤ postingLimit
@@ -125,7 +142,13 @@ module _ (S : Store) (x : Tx) (ok : Ready S x) where
       let ks = kXmax ∷ kHead ∷ [] in
       let o = publish-only (x .txid .0) (finals x) in
       let short : length newPostings ≤ postingLimit
-      = rw new-postings (omega (arith, heads-length (S .key) (S .has) 0 (newHeads (finals x) (S .heads)), new-heads-long (finals x) (S .heads), ok .sized .heads, rows-posted)) in
+      = rw new-postings (omega (
+        arith,
+        heads-length (S .key) (S .has) 0 (newHeads (finals x) (S .heads)),
+        new-heads-long (finals x) (S .heads),
+        ok .sized .heads,
+        rows-posted,
+      )) in
       rw (postings-kept ks refl refl ps T o, key-kept ks refl refl ps T o, has-kept ks refl refl ps T o, publish-heads (x .txid .0) (finals x) T)
       (posted-of newPostings S short ∙ new-postings)
 

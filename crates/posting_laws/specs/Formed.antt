@@ -15,12 +15,15 @@ use Rattle.rules.specs.Lists.{all, memb}
 use Rattle.rules.specs.Store.{posting, valueAt, postingsOf, postingsInForm}
 use Rattle.rules.specs.Transaction.{finals}
 use Rattle.rules.specs.Admitted.{resting}
-use Rattle.rules.specs.Puts.{Put, kStripe, kPartition, kRemove, kXmax, kHead, kFree, kDrop, kStamp, kPoison, kDoom, putInsert, putDrop, putPoison, putDoom, applyAll}
+use Rattle.rules.specs.Puts.{Put, kStripe, kPartition, kRemove, kXmax, kHead, kFree, kDrop, kStamp}
+use Rattle.rules.specs.Puts.{kPoison, kDoom, putInsert, putDrop, putPoison, putDoom, applyAll}
 use Rattle.rules.specs.Changes.{postingIn, changes, destinations, release, insertions, removals, publication, recycling, stamping}
 use Rattle.rules.specs.Commit.{End, count, finish, rollback, abortOrPoison, runOf}
 use Rattle.rules.specs.Answer.{uncut, cutOff, answer, commit}
 use Rattle.run_laws.specs.OnlyKinds.{only, only-take, only-if}
-use Rattle.run_laws.specs.Outcome.{guardsTaken, afterInsert, afterRemove, afterPublish, afterRecycle, afterFinish, Passed, Taken, neither, index, both, worse, undoing, Spoil, unremoved, unpublished, unrecycled, unfinished, Outcome, done, stays, aborts, uninserted, uncalled, spoils, unstamped, outcome}
+use Rattle.run_laws.specs.Outcome.{guardsTaken, afterInsert, afterRemove, afterPublish, afterRecycle, afterFinish, Passed}
+use Rattle.run_laws.specs.Outcome.{Taken, neither, index, both, worse, undoing, Spoil, unremoved, unpublished, unrecycled}
+use Rattle.run_laws.specs.Outcome.{unfinished, Outcome, done, stays, aborts, uninserted, uncalled, spoils, unstamped, outcome}
 use Rattle.statements.specs.Words.{Admitted}
 use Rattle.run_laws.specs.FirstRows.{every-commit}
 use Rattle.statements.specs.Sized.{Sized}
@@ -30,7 +33,8 @@ use Rattle.posting_laws.specs.RestingPostings.{in-form}
 use Rattle.posting_laws.specs.Written.{changed, side-all}
 use Rattle.posting_laws.specs.Undone.{Ready, take-map, rows-fit, room}
 use Rattle.posting_laws.specs.Rolled.{ready}
-use Rattle.run_laws.specs.Kinds.{index-kind, taken-kinds, release-kinds, removals-kind, publication-kinds, recycling-kind, stamping-kind, cleaning-kinds, rollback-kinds, finish-kind}
+use Rattle.run_laws.specs.Kinds.{index-kind, taken-kinds, release-kinds, removals-kind, publication-kinds}
+use Rattle.run_laws.specs.Kinds.{recycling-kind, stamping-kind, cleaning-kinds, rollback-kinds, finish-kind}
 use Rattle.posting_laws.specs.StaysInForm.{small, form-short, inserts, form-along, inserts-append, inserts-none, inserts-all, inserts-take}
 
 -- every kind of a commit's puts but insertions
@@ -42,7 +46,8 @@ pub record Insertless (ps : List Put) : Type 0 where
   pub spares : only uninserting ps ≡ true
 
 -- a slot's posting has a 32-bit key
-slot-small : (key : List ℕ) (has : List Bool) (b : Bool) (q p : ℕ) → all (λ k. ltb k keyEnd) key ≡ true → q < rows → all small (cond b (postingIn q (valueAt key has p)) []) ≡ true
+slot-small : (key : List ℕ) (has : List Bool) (b : Bool) (q p : ℕ) → all (λ k. ltb k keyEnd) key ≡ true → q < rows
+    → all small (cond b (postingIn q (valueAt key has p)) []) ≡ true
 slot-small key has b q p keys lt = by b
     (λ e. by (getD has p false)
     (λ f. let k = ltb-true (getD key p 0) keyEnd (all-get (λ k. ltb k keyEnd) key p 0 keys refl) in
@@ -156,15 +161,20 @@ module _ (S : Store) (x : Tx) (logged : Bool) (plan : Schedule) where
         let n = count S x logged plan 15 in
         simp append-assoc (simp append-assoc at (then (then (inserted-some p n) (rolling false (take n (destinations (changes S x))))) letting-go))
     few _ _ _ (uncalled p l k) =
-        let called : Insertless (cond (worse S x logged plan) (putPoison ∷ []) []) = record { spares = only-if uninserting (worse S x logged plan) (putPoison ∷ []) [] refl refl } in
-        simp append-assoc (simp append-assoc at (then (then (then (then (inserted-all p) called) (rolling (worse S x logged plan) (destinations (changes S x)))) (cleaning (worse S x logged plan || undoing S x logged plan .failed))) letting-go))
+        let called : Insertless (cond (worse S x logged plan) (putPoison ∷ []) []) =
+        record { spares = only-if uninserting (worse S x logged plan) (putPoison ∷ []) [] refl refl } in
+        simp append-assoc
+        (simp append-assoc at
+        (then (then (then (then (inserted-all p) called) (rolling (worse S x logged plan) (destinations (changes S x))))
+        (cleaning (worse S x logged plan || undoing S x logged plan .failed))) letting-go))
     few _ _ _ (spoils p k) = let h = spoiled p k in simp append-assoc (simp append-assoc at (then (then (then (h .0) (h .1)) (h .2)) letting-go))
     few _ _ _ (unstamped p k) =
         simp append-assoc (simp append-assoc at (then (then (then (finished-all p) (some (count S x logged plan 22) stamp)) (one putPoison refl)) letting-go))
 
 -- cut or not
 module _ (S : Store) (x : Tx) (logged : Bool) (plan : Schedule) (sized : Sized S) (keys : all (λ k. ltb k keyEnd) (S .key) ≡ true) where
-  run-formed : Admitted S x plan → (n : ℕ) → (postingsInForm (applyAll (runOf S x logged plan .puts) S) ≡ true) × (postingsInForm (applyAll (take n (runOf S x logged plan .puts)) S) ≡ true)
+  run-formed : Admitted S x plan → (n : ℕ)
+      → (postingsInForm (applyAll (runOf S x logged plan .puts) S) ≡ true) × (postingsInForm (applyAll (take n (runOf S x logged plan .puts)) S) ≡ true)
   run-formed ok n =
       let ps = runOf S x logged plan .puts in
       let f = fits S x logged plan (ok .rests) keys (few S x logged plan sized ok _ _ _ (outcome S x logged plan)) in
@@ -178,4 +188,5 @@ module _ (S : Store) (x : Tx) (logged : Bool) (plan : Schedule) (sized : Sized S
 
   -- "postings in their form", after every answer but 1
   pub commit-formed : resting S ≡ true → (cut : Cut) → postingsInForm (commit S x logged plan cut .store) ≡ true
-  commit-formed r cut = every-commit S x logged plan (λ a. postingsInForm (a .store) ≡ true) cut (in-form S r) (in-form S r) (in-form S r) (λ ok. answer-formed ok cut)
+  commit-formed r cut =
+      every-commit S x logged plan (λ a. postingsInForm (a .store) ≡ true) cut (in-form S r) (in-form S r) (in-form S r) (λ ok. answer-formed ok cut)

@@ -45,7 +45,11 @@ module _ (key : List ℕ) (has : List Bool) where
   earlier : (k q r : ℕ) (hs : List ℕ) → q < r → r + length hs ≤ rows → memb (posting k q) (headPostings key has r hs) ≡ false
   earlier k q r [] lt le = refl
   earlier k q r (h ∷ hs) lt le = by (getD has h false)
-      (λ e. rw (e, mem-into (posting (getD key h 0) r) (headPostings key has (suc r) hs) (posting k q), ne-eqb (posting k q) (posting (getD key h 0) r) (omega arith)) (earlier k q (suc r) hs (omega arith) (omega arith)))
+      (λ e. rw (
+        e,
+        mem-into (posting (getD key h 0) r) (headPostings key has (suc r) hs) (posting k q),
+        ne-eqb (posting k q) (posting (getD key h 0) r) (omega arith),
+      ) (earlier k q (suc r) hs (omega arith) (omega arith)))
       (λ e. rw e (earlier k q (suc r) hs (omega arith) (omega arith)))
 
   -- the row's own head decides
@@ -83,7 +87,8 @@ module _ (key : List ℕ) (has : List Bool) where
         (ltb-true r (length heads) (a .0), carries-key key has (getD heads r 0) k .0 (a .1))
 
     -- one posting a row at most
-    pub head-once : (j k r : ℕ) → r < rows → memb (posting j r) (headPostings key has 0 heads) ≡ true → memb (posting k r) (headPostings key has 0 heads) ≡ true → j ≡ k
+    pub head-once : (j k r : ℕ) → r < rows → memb (posting j r) (headPostings key has 0 heads) ≡ true
+        → memb (posting k r) (headPostings key has 0 heads) ≡ true → j ≡ k
     head-once j k r lt m n =
         let a = head-has j r lt m .1 in
         let b = head-has k r lt n .1 in

@@ -17,7 +17,8 @@ use Rattle.rules.specs.Changes.{changes, destinations, insertions, stamping, re
 use Rattle.rules.specs.Commit.{runOf, End, poison, fails, count, rollback, abortOrPoison}
 use Rattle.rules.specs.Answer.{uncut, commit}
 use Rattle.run_laws.specs.GuardPuts.{applyAll-append}
-use Rattle.run_laws.specs.Outcome.{guardsTaken, afterInsert, afterFinish, aborting, rollingBack, worse, undoing, abortingLate, Taken, Passed, Spoil, unremoved, unpublished, unrecycled, unfinished, Outcome, done, stays, aborts, uninserted, uncalled, spoils, unstamped, outcome}
+use Rattle.run_laws.specs.Outcome.{guardsTaken, afterInsert, afterFinish, aborting, rollingBack, worse, undoing, abortingLate, Taken, Passed, Spoil, unremoved}
+use Rattle.run_laws.specs.Outcome.{unpublished, unrecycled, unfinished, Outcome, done, stays, aborts, uninserted, uncalled, spoils, unstamped, outcome}
 use Rattle.statements.specs.Words.{Admitted}
 use Rattle.run_laws.specs.FirstRows.{row-2, row-3, whole, given-back, stay-not, abort-not, called-not, spoil-not}
 use Rattle.statements.specs.Sized.{Sized}
@@ -114,14 +115,16 @@ module _ (S : Store) (x : Tx) (logged : Bool) (plan : Schedule) (sized : Sized S
       by (fails S x logged plan 24)
       (λ e. let some = take (count S x logged plan 24) R ++ putPoison ∷ [] in
       met-none (G ++ (I ++ (some ++ release S x))) S (rw e at h)
-      (poisons-later G (I ++ (some ++ release S x)) (poisons-later I (some ++ release S x) (poisons-first some (release S x) (poisons-later (take (count S x logged plan 24) R) (putPoison ∷ []) refl)))))
+      (poisons-later G (I ++ (some ++ release S x))
+      (poisons-later I (some ++ release S x) (poisons-first some (release S x) (poisons-later (take (count S x logged plan 24) R) (putPoison ∷ []) refl)))))
       (λ e. let same : applyAll (G ++ (I ++ (R ++ release S x))) S ≡ S
       = rw (take-map putInsert n ds) (back-and-forth S x logged plan sized (ready S x logged plan sized ok p) n) in
       rw (e, same) (exact S (ok .rests) (p .healthy)))
 
   -- 11 and 12: rolled back and aborted, or poisoned
   uncalled-fine : Admitted S x plan → Passed S x logged plan
-      → Fine (afterInsert S x logged plan ++ (cond (worse S x logged plan) (putPoison ∷ []) [] ++ (undoing S x logged plan .puts ++ (abortingLate S x logged plan .puts ++ release S x))))
+      → Fine (afterInsert S x logged plan
+      ++ (cond (worse S x logged plan) (putPoison ∷ []) [] ++ (undoing S x logged plan .puts ++ (abortingLate S x logged plan .puts ++ release S x))))
   unfolding rollback abortOrPoison insertions
   uncalled-fine ok p h =
       let G = afterInsert S x logged plan in
@@ -135,14 +138,16 @@ module _ (S : Store) (x : Tx) (logged : Bool) (plan : Schedule) (sized : Sized S
       by (worse S x logged plan)
       (λ w. behind (poisons-first C (U ++ (A ++ Z)) (rw w)))
       (λ w. by (fails S x logged plan 24)
-      (λ e. behind (poisons-later C (U ++ (A ++ Z)) (poisons-first U (A ++ Z) (rw (w, e) (poisons-later (take (count S x logged plan 24) R) (putPoison ∷ []) refl)))))
+      (λ e. behind (poisons-later C (U ++ (A ++ Z))
+      (poisons-first U (A ++ Z) (rw (w, e) (poisons-later (take (count S x logged plan 24) R) (putPoison ∷ []) refl)))))
       (λ e. by (fails S x logged plan 23)
       (λ a. behind (poisons-later C (U ++ (A ++ Z)) (poisons-later U (A ++ Z) (poisons-first A Z (rw (w, e, a))))))
       (λ a. let same = rw w at (called-run S x logged plan sized (ready S x logged plan sized ok p)) in
       rw (w, e, a, same) (aborted-exact S (x .txid .0) sized (ok .rests) (rw (w, e, a, same) at h)))))
 
   -- 13 to 16 poison
-  spoiled : {n : ℕ} {made some finishing : List Put} {poisoning : Put} {kind : Fate → Refusal} {y : Tx} {drops : Bool} → Spoil S x logged plan n made some poisoning finishing kind y drops
+  spoiled : {n : ℕ} {made some finishing : List Put} {poisoning : Put} {kind : Fate → Refusal} {y : Tx} {drops : Bool}
+      → Spoil S x logged plan n made some poisoning finishing kind y drops
       → poisons (poisoning ∷ finishing) ≡ true
   spoiled (unremoved k) = refl
   spoiled (unpublished k) = refl
@@ -158,7 +163,8 @@ module _ (S : Store) (x : Tx) (logged : Bool) (plan : Schedule) (sized : Sized S
   fine _ _ _ ok (uncalled p l k) h = uncalled-fine ok p h
   fine _ _ _ ok (spoils {made = made} {some = some} {finishing = finishing} {poisoning = poisoning} p k) h =
       let Z = some ++ poisoning ∷ finishing in
-      met-none (made ++ (Z ++ release S x)) S h (poisons-later made (Z ++ release S x) (poisons-first Z (release S x) (poisons-later some (poisoning ∷ finishing) (spoiled k))))
+      met-none (made ++ (Z ++ release S x)) S h
+      (poisons-later made (Z ++ release S x) (poisons-first Z (release S x) (poisons-later some (poisoning ∷ finishing) (spoiled k))))
   fine _ _ _ ok (unstamped p k) h =
       let some = take (count S x logged plan 22) (stamping S x) in
       let Z = putPoison ∷ release S x in
@@ -185,7 +191,8 @@ module _ (S : Store) (x : Tx) (logged : Bool) (plan : Schedule) (sized : Sized S
       (λ f. rw (row-2 S x logged plan cut r f) (settled S r))
 
   -- an answer 0 doesn't poison, so its postings are exact
-  only-zero : (n : ℕ) (ps : List Put) (d : End) → Admitted S x plan → Outcome S x logged plan n ps d → isZero (numberOf (d .refusal)) ≡ true → Exact (applyAll ps S)
+  only-zero : (n : ℕ) (ps : List Put) (d : End) → Admitted S x plan → Outcome S x logged plan n ps d → isZero (numberOf (d .refusal)) ≡ true
+      → Exact (applyAll ps S)
   only-zero _ _ _ ok (done p) h = postings-exact S x logged plan (ready S x logged plan sized ok p)
   only-zero _ _ _ ok (stays l t k) h = clash h (stay-not isZero refl refl k _)
   only-zero _ _ _ ok (aborts l t k) h = clash h (abort-not isZero refl refl refl refl refl k)

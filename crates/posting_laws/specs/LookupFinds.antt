@@ -25,7 +25,8 @@ use Rattle.posting_laws.specs.Written.{rowsOf}
 told-apart : (k r c : ℕ) → r < rows → eqb (posting k r) c ≡ (eqb (keyOf c) k && eqb r (rowOf c))
 told-apart k r c lt = iff (eqb (posting k r) c) (eqb (keyOf c) k && eqb r (rowOf c))
     (λ e. let q = eqb-true (posting k r) c e in
-    and-both (eqb (keyOf c) k) (eqb r (rowOf c)) (eq-eqb (keyOf c) k (rw (sym q) (key-of-posting k r lt))) (eq-eqb r (rowOf c) (rw (sym q) (sym (row-of-posting k r lt)))))
+    and-both (eqb (keyOf c) k) (eqb r (rowOf c)) (eq-eqb (keyOf c) k (rw (sym q) (key-of-posting k r lt)))
+    (eq-eqb r (rowOf c) (rw (sym q) (sym (row-of-posting k r lt)))))
     (λ e. let a = and-true (eqb (keyOf c) k) (eqb r (rowOf c)) e in
     eq-eqb (posting k r) c (rw (sym (eqb-true (keyOf c) k (a .0)), eqb-true r (rowOf c) (a .1)) (posting-of c)))
 
@@ -37,7 +38,8 @@ rows-of-key k r (c ∷ l) lt =
     (by (eqb (keyOf c) k) (λ e. rw (e, rows-of-key k r l lt)) (λ e. rw (e, rows-of-key k r l lt)))
 
 -- "rows from postings of the key and own writes"
-pub candidate-tells : (S : Store) (x : Tx) (k r : ℕ) → r < rows → memb r (candidates S x k) ≡ (memb (posting k r) (postingsOf S) || memb r (rowsOf (writesOf x)))
+pub candidate-tells : (S : Store) (x : Tx) (k r : ℕ) → r < rows
+    → memb r (candidates S x k) ≡ (memb (posting k r) (postingsOf S) || memb r (rowsOf (writesOf x)))
 unfolding candidates
 candidate-tells S x k r lt =
     let found = map rowOf (those (λ c. eqb (keyOf c) k) (postingsOf S)) in

@@ -56,7 +56,8 @@ withoutAll (c ∷ cs) l = withoutAll cs (without c l)
 -- their members, that they rise, and how long they are
 pub mem-intoAll : (cs l : List ℕ) (p : ℕ) → memb p (intoAll cs l) ≡ (memb p cs || memb p l)
 mem-intoAll [] l p = refl
-mem-intoAll (c ∷ cs) l p = mem-intoAll cs (into c l) p ∙ rw (mem-into c l p, or-swap (memb p cs) (eqb p c) (memb p l)) (sym (or-assoc (eqb p c) (memb p cs) (memb p l)))
+mem-intoAll (c ∷ cs) l p =
+    mem-intoAll cs (into c l) p ∙ rw (mem-into c l p, or-swap (memb p cs) (eqb p c) (memb p l)) (sym (or-assoc (eqb p c) (memb p cs) (memb p l)))
 
 pub rising-intoAll : (cs l : List ℕ) → rising 0 l ≡ true → rising 0 (intoAll cs l) ≡ true
 rising-intoAll [] l h = h

@@ -42,13 +42,15 @@ keep-blank z [] (x ∷ l) h = refl
 keep-blank z (b ∷ m) (x ∷ l) h = by (eqb b 0) (λ e. rw e) (λ e. rw e h)
 
 -- the heads' postings have 32-bit keys
-heads-small : (key : List ℕ) (has : List Bool) (r : ℕ) (hs : List ℕ) → all (λ k. ltb k keyEnd) key ≡ true → r + length hs ≤ rows → all small (headPostings key has r hs) ≡ true
+heads-small : (key : List ℕ) (has : List Bool) (r : ℕ) (hs : List ℕ) → all (λ k. ltb k keyEnd) key ≡ true → r + length hs ≤ rows
+    → all small (headPostings key has r hs) ≡ true
 heads-small key has r [] keys le = refl
 heads-small key has r (h ∷ hs) keys le =
     let rest = heads-small key has (suc r) hs keys (omega arith) in
     let k = ltb-true (getD key h 0) keyEnd (all-get (λ k. ltb k keyEnd) key h 0 keys refl) in
     by (getD has h false)
-    (λ e. rw e (all-into small (posting (getD key h 0) r) (headPostings key has (suc r) hs) (lt-ltb (posting (getD key h 0) r) (posting keyEnd 0) (below-key (getD key h 0) r k (omega arith))) rest))
+    (λ e. rw e (all-into small (posting (getD key h 0) r) (headPostings key has (suc r) hs)
+    (lt-ltb (posting (getD key h 0) r) (posting keyEnd 0) (below-key (getD key h 0) r k (omega arith))) rest))
     (λ e. rw e rest)
 
 -- pointer 0 has no value
@@ -56,14 +58,17 @@ no-value : (S : Store) → Sized S → slotsInForm S ≡ true → (getD (S .has)
 no-value S sized h =
     let a = slots-parts S h in
     let has : getD (S .has) 0 false ≡ false
-    = not-true (getD (S .has) 0 false) (each-or nonzero not (S .xmin) (S .has) 0 false (a .has) 0 (omega (arith, sized .has)) (not-true (used (S .xmin) 0) (a .first))) in
+    =
+    not-true (getD (S .has) 0 false)
+    (each-or nonzero not (S .xmin) (S .has) 0 false (a .has) 0 (omega (arith, sized .has)) (not-true (used (S .xmin) 0) (a .first))) in
     (has, eqb-true (getD (S .key) 0 0) 0 (each-or (λ b. b) isZero (S .has) (S .key) false 0 (a .key) 0 (omega (arith, sized .key)) has))
 
 -- the heads of the recovered store
 abbrev pub trimmed : Store → List ℕ
 trimmed S = map (trimHead (finished (S .active) (S .doomed)) (S .xmin) (S .next)) (S .heads)
 
-module _ (S : Store) (slots : slotsInForm S ≡ true) (ends : walk (trimmed S) (S .next) .ok ≡ true) (sized : Sized S) (keys : all (λ k. ltb k keyEnd) (S .key) ≡ true) where
+module _ (S : Store) (slots : slotsInForm S ≡ true) (ends : walk (trimmed S) (S .next) .ok ≡ true) (sized : Sized S)
+    (keys : all (λ k. ltb k keyEnd) (S .key) ≡ true) where
   abbrev found : List ℕ
   found = headPostings (S .key) (S .has) 0 (trimmed S)
 

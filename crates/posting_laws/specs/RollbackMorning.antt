@@ -23,7 +23,27 @@ second = wrote (committed (wrote fresh 35)) 51
 
 pub ready : Ready (second .store) (second .tx)
 unfolding wrote committed second computing
-ready = record { rests = refl; healthy = refl; fits = refl; agreed = refl; sized = record { heads = refl; xmin = refl; xmax = refl; next = refl; key = refl; has = refl; locked = refl; owner = refl; postings = refl; «stripe_guards» = refl; «partition_guards» = refl; stamps = refl; active = refl } }
+ready = record {
+  rests = refl;
+  healthy = refl;
+  fits = refl;
+  agreed = refl;
+  sized = record {
+    heads = refl;
+    xmin = refl;
+    xmax = refl;
+    next = refl;
+    key = refl;
+    has = refl;
+    locked = refl;
+    owner = refl;
+    postings = refl;
+    «stripe_guards» = refl;
+    «partition_guards» = refl;
+    stamps = refl;
+    active = refl;
+  };
+}
 
 -- one posting in, one out; and what is left
 pub one-each : let S = second .store in

@@ -49,14 +49,19 @@ module _ (S : Store) (x : Tx) (logged : Bool) (plan : Schedule) (sized : Sized S
       let ds = take n (destinations (changes S x)) in
       let I = map putInsert ds in
       let R = map putRemove (reverse ds) in
-      rw (sym (append-assoc I R (release S x)), between-guards S x logged plan (ok .rests) (I ++ R) (only-both unguarded I R (insert-kind unguarded refl ds) (remove-kind unguarded refl (reverse ds))), applyAll-append I R S)
+      rw (
+        sym (append-assoc I R (release S x)),
+        between-guards S x logged plan (ok .rests) (I ++ R) (only-both unguarded I R (insert-kind unguarded refl ds) (remove-kind unguarded refl (reverse ds))),
+        applyAll-append I R S,
+      )
       (undone S x ok n)
 
   -- row 10
   abbrev pub ten : ℕ → Bool
   ten n = eqb n 10
 
-  only-ten : (n : ℕ) (ps : List Put) (d : End) → Admitted S x plan → fails S x logged plan 24 ≡ false → Outcome S x logged plan n ps d → ten (numberOf (d .refusal)) ≡ true
+  only-ten : (n : ℕ) (ps : List Put) (d : End) → Admitted S x plan → fails S x logged plan 24 ≡ false → Outcome S x logged plan n ps d
+      → ten (numberOf (d .refusal)) ≡ true
       → (applyAll ps S ≡ S) × (d .tx ≡ x) × (fateIn (d .refusal) ≡ Open)
   unfolding rollback insertions
   only-ten _ _ _ ok f (done p) h = clash h refl
@@ -95,7 +100,8 @@ module _ (S : Store) (x : Tx) (logged : Bool) (plan : Schedule) (sized : Sized S
 
   -- the run: guards, insertions, callback, rollback, abort, guards
   pub called-run : Ready S x → let ds = destinations (changes S x) in
-      applyAll ((guardsTaken S x logged plan ++ map putInsert ds) ++ (calledBack ++ (map putRemove (reverse ds) ++ (abortPuts S (x .txid .0) ++ release S x)))) S
+      applyAll ((guardsTaken S x logged plan ++ map putInsert ds) ++ (calledBack ++ (map putRemove (reverse ds) ++ (abortPuts S (x .txid .0) ++ release S x))))
+      S
       ≡ applyAll (calledBack ++ abortPuts S (x .txid .0)) S
   called-run ok =
       let ds = destinations (changes S x) in
@@ -104,8 +110,15 @@ module _ (S : Store) (x : Tx) (logged : Bool) (plan : Schedule) (sized : Sized S
       let C = calledBack in
       let A = abortPuts S (x .txid .0) in
       let poisons = only-if unguarded (worse S x logged plan) (putPoison ∷ []) [] refl refl in
-      let spares = only-both unguarded (I ++ (C ++ R)) A (only-both unguarded I (C ++ R) (insert-kind unguarded refl ds) (only-both unguarded C R poisons (remove-kind unguarded refl (reverse ds)))) (abort-kinds unguarded refl refl S (x .txid .0)) in
-      rw (regroup (guardsTaken S x logged plan) I C R A (release S x), between-guards S x logged plan (ok .rests) ((I ++ (C ++ R)) ++ A) spares, applyAll-append (I ++ (C ++ R)) A S, undone-around ok (worse S x logged plan))
+      let spares = only-both unguarded (I ++ (C ++ R)) A
+      (only-both unguarded I (C ++ R) (insert-kind unguarded refl ds) (only-both unguarded C R poisons (remove-kind unguarded refl (reverse ds))))
+      (abort-kinds unguarded refl refl S (x .txid .0)) in
+      rw (
+        regroup (guardsTaken S x logged plan) I C R A (release S x),
+        between-guards S x logged plan (ok .rests) ((I ++ (C ++ R)) ++ A) spares,
+        applyAll-append (I ++ (C ++ R)) A S,
+        undone-around ok (worse S x logged plan),
+      )
       (sym (applyAll-append C A S))
 
   abbrev pub eleven : ℕ → Bool
@@ -113,7 +126,8 @@ module _ (S : Store) (x : Tx) (logged : Bool) (plan : Schedule) (sized : Sized S
 
   only-eleven : (n : ℕ) (ps : List Put) (d : End) → Admitted S x plan → fails S x logged plan 23 ≡ false → fails S x logged plan 24 ≡ false
       → Outcome S x logged plan n ps d → eleven (numberOf (d .refusal)) ≡ true
-      → (applyAll ps S ≡ applyAll (calledBack ++ abortPuts S (x .txid .0)) S) × (d .tx ≡ onlyTxid (x .txid .0)) × (fateIn (d .refusal) ≡ fate (worse S x logged plan) true)
+      → (applyAll ps S ≡ applyAll (calledBack ++ abortPuts S (x .txid .0)) S) × (d .tx ≡ onlyTxid (x .txid .0))
+      × (fateIn (d .refusal) ≡ fate (worse S x logged plan) true)
   unfolding rollback abortOrPoison insertions
   only-eleven _ _ _ ok a f (done p) h = clash h refl
   only-eleven _ _ _ ok a f (stays l t k) h = clash h (stay-not eleven refl refl k _)
@@ -126,7 +140,8 @@ module _ (S : Store) (x : Tx) (logged : Bool) (plan : Schedule) (sized : Sized S
   -- "11, 12: 16 failed; panicked: rolled back, aborted", where neither the rollback nor the abort failed; X and Q leave the store poisoned
   pub row-11-12 : (cut : Cut) → Admitted S x plan → fails S x logged plan 23 ≡ false → fails S x logged plan 24 ≡ false → let a = commit S x logged plan cut in
       eleven (numberOf (a .refusal)) ≡ true
-      → (a .store ≡ applyAll (calledBack ++ abortPuts S (x .txid .0)) S) × (a .tx ≡ onlyTxid (x .txid .0)) × (fateIn (a .refusal) ≡ fate (worse S x logged plan) true)
+      → (a .store ≡ applyAll (calledBack ++ abortPuts S (x .txid .0)) S) × (a .tx ≡ onlyTxid (x .txid .0))
+      × (fateIn (a .refusal) ≡ fate (worse S x logged plan) true)
   unfolding uncut
   row-11-12 cut ok a f h =
       let u = whole S x logged plan cut ok eleven refl h in

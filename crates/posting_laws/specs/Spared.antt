@@ -26,7 +26,8 @@ use Rattle.run_laws.specs.OwnSlots.{own-is, recycled-is}
 use Rattle.posting_laws.specs.RestingPostings.{mendable}
 
 -- a head is on a chain, by the marks of a walk that ends
-pub head-seen : (heads next : List ℕ) (h : ℕ) → length next ≡ places → walk heads next .ok ≡ true → (h ≡ 0 → ⊥) → memb h heads ≡ true → on (walk heads next .seen) h ≡ true
+pub head-seen : (heads next : List ℕ) (h : ℕ) → length next ≡ places → walk heads next .ok ≡ true → (h ≡ 0 → ⊥) → memb h heads ≡ true
+    → on (walk heads next .seen) h ≡ true
 head-seen heads next h long ok n m =
     let c = walk-sound heads next long ok in
     let r = mem-at heads h m in
@@ -46,7 +47,8 @@ new-heads-member (w ∷ ws) hs h d m =
     set-member hs (w .row .0) (w .new .0) h (o .0) (new-heads-member ws (set hs (w .row .0) (w .new .0)) h (o .1) m)
 
 -- "off-chain": no head of a resting store is among a txid's own slots
-pub head-not-own : (S : Store) (t : ℕ) → Sized S → resting S ≡ true → (h : ℕ) → memb h (S .heads) ≡ true → memb h (ownSlots (S .heads) (S .next) (S .xmin) t) ≡ false
+pub head-not-own : (S : Store) (t : ℕ) → Sized S → resting S ≡ true → (h : ℕ) → memb h (S .heads) ≡ true
+    → memb h (ownSlots (S .heads) (S .next) (S .xmin) t) ≡ false
 head-not-own S t sized rests h m =
     let r = mendable S rests in
     own-is (S .heads) (S .next) (S .xmin) t h

@@ -72,7 +72,8 @@ module _ (p : Put) (T : Store) where
   leave-posts e f = (rw (e, f), rw (e, f))
 
 -- put by put
-pub form-along : (ps : List Put) (T : Store) → postingsInForm T ≡ true → length (inserts ps) + length (postingsOf T) ≤ postingLimit → all small (inserts ps) ≡ true
+pub form-along : (ps : List Put) (T : Store) → postingsInForm T ≡ true → length (inserts ps) + length (postingsOf T) ≤ postingLimit
+    → all small (inserts ps) ≡ true
     → postingsInForm (applyAll ps T) ≡ true
 form-along [] T h r s = h
 form-along (p ∷ ps) T h r s =
@@ -86,7 +87,8 @@ form-along (p ∷ ps) T h r s =
     let short : length (inserts ps) + length m ≤ postingLimit = omega (arith, into-length c l) in
     let less : length m ≤ postingLimit = omega arith in
     let q = insert-posts p T e in
-    form-along ps (apply p T) (q .1 ∙ posted-form m T less (rising-into 0 c l (omega arith) (f .0)) (all-into small c l (s′ .0) (f .1))) (rw (q .0, posted-of m T less) short) (s′ .1))
+    form-along ps (apply p T) (q .1 ∙ posted-form m T less (rising-into 0 c l (omega arith) (f .0)) (all-into small c l (s′ .0) (f .1)))
+    (rw (q .0, posted-of m T less) short) (s′ .1))
     (λ e. let r′ : length (inserts ps) + length l ≤ postingLimit = rw e at r in
     let s′ : all small (inserts ps) ≡ true = rw e at s in
     by (is p kRemove)
@@ -94,7 +96,8 @@ form-along (p ∷ ps) T h r s =
     let short : length (inserts ps) + length m ≤ postingLimit = omega (arith, without-length c l) in
     let less : length m ≤ postingLimit = omega arith in
     let q = remove-posts p T e k in
-    form-along ps (apply p T) (q .1 ∙ posted-form m T less (rising-without 0 c l (f .0)) (all-without small c l (f .1))) (rw (q .0, posted-of m T less) short) s′)
+    form-along ps (apply p T) (q .1 ∙ posted-form m T less (rising-without 0 c l (f .0)) (all-without small c l (f .1)))
+    (rw (q .0, posted-of m T less) short) s′)
     (λ k. let q = leave-posts p T e k in
     form-along ps (apply p T) (q .1 ∙ h) (rw (q .0) r′) s′))
 
@@ -115,11 +118,15 @@ inserts-all [] = refl
 inserts-all (c ∷ cs) = ap (λ (l : List ℕ). c ∷ l) (inserts-all cs)
 
 -- a prefix inserts no more
-pub inserts-take : (n : ℕ) (ps : List Put) → (length (inserts (take n ps)) ≤ length (inserts ps)) × (all small (inserts ps) ≡ true → all small (inserts (take n ps)) ≡ true)
+pub inserts-take : (n : ℕ) (ps : List Put)
+    → (length (inserts (take n ps)) ≤ length (inserts ps)) × (all small (inserts ps) ≡ true → all small (inserts (take n ps)) ≡ true)
 inserts-take zero ps = (omega arith, λ h. refl)
 inserts-take (suc n) [] = (omega arith, λ h. h)
 inserts-take (suc n) (p ∷ ps) =
     let r = inserts-take n ps in
     by (is p kInsert)
-    (λ e. rw e (omega (arith, r .0), λ h. let a = and-true (small (p .val)) (all small (inserts ps)) h in and-both (small (p .val)) (all small (inserts (take n ps))) (a .0) (r .1 (a .1))))
+    (λ e. rw e (
+      omega (arith, r .0),
+      λ h. let a = and-true (small (p .val)) (all small (inserts ps)) h in and-both (small (p .val)) (all small (inserts (take n ps))) (a .0) (r .1 (a .1)),
+    ))
     (λ e. rw e r)

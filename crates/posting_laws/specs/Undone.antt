@@ -77,7 +77,8 @@ head-differs key has heads k r [] a h = clash {b = false} h refl
 head-differs key has heads k r (w ∷ ws) a h =
     let b = and-true (eqb (getD heads (w .row .0) 0) (w .base .0)) (all (λ w. eqb (getD heads (w .row .0) 0) (w .base .0)) ws) a in
     by (eqb r (w .row .0))
-    (λ e. rw (eqb-true r (w .row .0) e, eqb-true (getD heads (w .row .0) 0) (w .base .0) (b .0)) (differs (valueAt key has (w .base .0)) (valueAt key has (w .new .0)) k (rw e at h)))
+    (λ e. rw (eqb-true r (w .row .0) e, eqb-true (getD heads (w .row .0) 0) (w .base .0) (b .0))
+    (differs (valueAt key has (w .base .0)) (valueAt key has (w .new .0)) k (rw e at h)))
     (λ e. head-differs key has heads k r ws (b .1) (rw e at h))
 
 module _ (S : Store) (x : Tx) (ok : Ready S x) where
@@ -87,7 +88,8 @@ module _ (S : Store) (x : Tx) (ok : Ready S x) where
   rows-fit =
       let writes = every-cons _ _ (every-cons _ _ (every-cons _ _ (ok .fits) .1) .1) .0 in
       finals-all (λ w. ltb (w .row .0) rows) (writesOf x)
-      (all-then (writeFit (S .xmin) (S .next) (walk (S .heads) (S .next) .seen) (x .txid .0)) (λ w. ltb (w .row .0) rows) (λ w h. every-cons _ _ h .0) (writesOf x) writes)
+      (all-then (writeFit (S .xmin) (S .next) (walk (S .heads) (S .next) .seen) (x .txid .0)) (λ w. ltb (w .row .0) rows)
+      (λ w h. every-cons _ _ h .0) (writesOf x) writes)
 
   -- each base is its row's head
   pub bases : all (λ w. eqb (getD (S .heads) (w .row .0) 0) (w .base .0)) (finals x) ≡ true
@@ -127,14 +129,22 @@ module _ (S : Store) (x : Tx) (ok : Ready S x) where
   -- room for all that is put in
   pub room : length (destinations (changes S x)) + length (postingsOf S) ≤ postingLimit
   unfolding destinations changes
-  room = rw (exact S (ok .rests) (ok .healthy)) (omega (arith, side-length (S .key) (S .has) (λ c. c .after) (finals x), few, heads-length (S .key) (S .has) 0 (S .heads), ok .sized .heads, writes-posted))
+  room = rw (exact S (ok .rests) (ok .healthy)) (omega (
+    arith,
+    side-length (S .key) (S .has) (λ c. c .after) (finals x),
+    few,
+    heads-length (S .key) (S .has) 0 (S .heads),
+    ok .sized .heads,
+    writes-posted,
+  ))
 
   -- the first n insertions undone
   pub undone : (n : ℕ) → let ds = take n (destinations (changes S x)) in
       applyAll (map putRemove (reverse ds)) (applyAll (map putInsert ds) S) ≡ S
   undone n =
       let ds = destinations (changes S x) in
-      put-back (take n ds) S (ok .sized .postings) (in-form S (ok .rests)) (λ p m. new-destination p (mem-take n ds p m)) (omega (arith, room, length-take n ds))
+      put-back (take n ds) S (ok .sized .postings) (in-form S (ok .rests)) (λ p m. new-destination p (mem-take n ds p m))
+      (omega (arith, room, length-take n ds))
 
   -- the last k of them undone alone: those before are left
   pub undone-but : (n k : ℕ) → let ds = take n (destinations (changes S x)) in
@@ -144,7 +154,8 @@ module _ (S : Store) (x : Tx) (ok : Ready S x) where
       let ds = take n all in
       let kept = reverse (drop k (reverse ds)) in
       let back = reverse (take k (reverse ds)) in
-      let parts : kept ++ back ≡ ds = sym (reverse-append (take k (reverse ds)) (drop k (reverse ds))) ∙ ap reverse (take-append-drop k (reverse ds)) ∙ reverse-reverse ds in
+      let parts : kept ++ back ≡ ds =
+      sym (reverse-append (take k (reverse ds)) (drop k (reverse ds))) ∙ ap reverse (take-append-drop k (reverse ds)) ∙ reverse-reverse ds in
       let apart = unique-append ds (drop n all) (ap unique (take-append-drop n all) ∙ destinations-once) .0 in
       let once = unique-append kept back (ap unique parts ∙ apart) .1 in
       let whole = ap length parts in

@@ -54,7 +54,8 @@ pub pick-none {ℓ} : {A : Type ℓ} (f : Write → A) (d : A) (r : ℕ) (ws : L
 pick-none f d r [] h = refl
 pick-none f d r (w ∷ ws) h = let o = or-false (eqb r (w .row .0)) (memb r (rowsOf ws)) h in rw (o .0) (pick-none f d r ws (o .1))
 
-pub pick-map {ℓ κ} : {A : Type ℓ} {B : Type κ} (F : A → B) (f : Write → A) (d : A) (r : ℕ) (ws : List Write) → F (pick f d r ws) ≡ pick (λ w. F (f w)) (F d) r ws
+pub pick-map {ℓ κ} : {A : Type ℓ} {B : Type κ} (F : A → B) (f : Write → A) (d : A) (r : ℕ) (ws : List Write)
+    → F (pick f d r ws) ≡ pick (λ w. F (f w)) (F d) r ws
 pick-map F f d r [] = refl
 pick-map F f d r (w ∷ ws) = by (eqb r (w .row .0)) (λ e. rw e) (λ e. rw e (pick-map F f d r ws))
 
@@ -72,7 +73,8 @@ in-posting true Absent k r q h i = sym (and-false (eqb r q))
 in-posting true (Key j) k r q h i = or-none (eqb (posting k r) (posting j q)) ∙ posting-test j k q r i h
 
 -- .. before others of other rows
-unique-one : (b : Bool) (q : ℕ) (v : Value) (l : List ℕ) → unique l ≡ true → ((k : ℕ) → memb (posting k q) l ≡ false) → unique (cond b (postingIn q v) [] ++ l) ≡ true
+unique-one : (b : Bool) (q : ℕ) (v : Value) (l : List ℕ) → unique l ≡ true → ((k : ℕ) → memb (posting k q) l ≡ false)
+    → unique (cond b (postingIn q v) [] ++ l) ≡ true
 unique-one false q v l u h = u
 unique-one true q Absent l u h = u
 unique-one true q (Key k) l u h = rw (h k) u
@@ -122,13 +124,22 @@ module _ (key : List ℕ) (has : List Bool) where
       let v = side (changeOf key has w) in
       let a = and-true (ltb q rows) (all (λ w. ltb (w .row .0) rows) ws) b in
       let c = and-true (not (memb q (rowsOf ws))) (unique (rowsOf ws)) u in
-      rw (side-cons side w ws, mem-append (one side w) (sideOf side ws) (posting k r), in-posting (changed w) v k r q lt (ltb-true q rows (a .0)), mem-side side k r ws lt (a .1) (c .1))
+      rw (
+        side-cons side w ws,
+        mem-append (one side w) (sideOf side ws) (posting k r),
+        in-posting (changed w) v k r q lt (ltb-true q rows (a .0)),
+        mem-side side k r ws lt (a .1) (c .1),
+      )
       (by (eqb r q)
-      (λ e. rw (e, pick-none (λ w. changed w && sameValue (side (changeOf key has w)) (Key k)) false r ws (rw (eqb-true r q e) (not-true (memb q (rowsOf ws)) (c .0)))) (or-none (changed w && sameValue v (Key k))))
+      (λ e. rw (
+        e,
+        pick-none (λ w. changed w && sameValue (side (changeOf key has w)) (Key k)) false r ws (rw (eqb-true r q e) (not-true (memb q (rowsOf ws)) (c .0))),
+      ) (or-none (changed w && sameValue v (Key k))))
       (λ e. rw e))
 
   -- one posting a row: none stands twice on a side
-  pub side-once : (side : Change → Value) (ws : List Write) → all (λ w. ltb (w .row .0) rows) ws ≡ true → unique (rowsOf ws) ≡ true → unique (sideOf side ws) ≡ true
+  pub side-once : (side : Change → Value) (ws : List Write) → all (λ w. ltb (w .row .0) rows) ws ≡ true → unique (rowsOf ws) ≡ true
+      → unique (sideOf side ws) ≡ true
   unfolding indexChanges
   side-once side [] b u = refl
   side-once side (w ∷ ws) b u =

@@ -87,6 +87,7 @@ pub fit-rows : (S : Store) (x : Tx) → fit S x ≡ true → all (λ r. ltb r ro
 unfolding fit
 fit-rows S x h = each (writesOf x) (every-cons _ _ (every-cons _ _ (every-cons _ _ h .1) .1) .0)
   where
-    each : (l : List Write) → all (writeFit (S .xmin) (S .next) (walk (S .heads) (S .next) .seen) (x .txid .0)) l ≡ true → all (λ r. ltb r rows) (ownRows l) ≡ true
+    each : (l : List Write) → all (writeFit (S .xmin) (S .next) (walk (S .heads) (S .next) .seen) (x .txid .0)) l ≡ true
+        → all (λ r. ltb r rows) (ownRows l) ≡ true
     each [] e = refl
     each (w ∷ l) e = let b = and-true _ _ e in rw (every-cons _ _ (b .0) .0) (each l (b .1))

@@ -36,6 +36,7 @@ module _ (heads next xmin : List ℕ) (x : Tx) (rs : List ℕ) (l : List ReadRec
   unfolding recordReadsOf
   records-none e = rw e
 
-  pub records-next : (r : ℕ) (rest : List ℕ) → rs ≡ r ∷ rest → recordReadsOf heads next xmin x rs l ≡ recordReadsOf heads next xmin x rest (recordReadOf heads next xmin x r l)
+  pub records-next : (r : ℕ) (rest : List ℕ) → rs ≡ r ∷ rest
+      → recordReadsOf heads next xmin x rs l ≡ recordReadsOf heads next xmin x rest (recordReadOf heads next xmin x r l)
   unfolding recordReadsOf
   records-next r rest e = rw e

@@ -28,7 +28,8 @@ unfoldable pub indexConflict : Tx → ℕ → Bool
 indexConflict x t = x .«index_conflict» || (not (eqb t 0) && not (sees x t))
 
 -- the first index reads of an array of them, laid out
-pub list-first : (l at : List IndexRead) (count n : ℕ) → length l ≡ indexReadLimit → n ≡ min count indexReadLimit → at ≡ pad indexReadLimit noIndexRead (take n l)
+pub list-first : (l at : List IndexRead) (count n : ℕ) → length l ≡ indexReadLimit → n ≡ min count indexReadLimit
+    → at ≡ pad indexReadLimit noIndexRead (take n l)
     → record { at = at; count = n } ≡ indexReadList (take count l)
 unfolding indexReadList
 list-first l at count n long e a =
@@ -66,7 +67,8 @@ module _ (l : IndexReadList) (m : List IndexRead) (i t : ℕ) (b : Bool) (holds 
       let r : IndexRead = record { stripe = i; stamp = record { 0 = t } } in
       let c : l .count ≡ length m = ap (λ q. q .count) holds in
       let long = length-append m (r ∷ []) in
-      let a : l .at ≡ pad indexReadLimit noIndexRead (m ++ r ∷ []) = ap (λ q. q .at) holds ∙ sym (pad-over indexReadLimit noIndexRead m (r ∷ []) (omega arith)) in
+      let a : l .at ≡ pad indexReadLimit noIndexRead (m ++ r ∷ []) =
+      ap (λ q. q .at) holds ∙ sym (pad-over indexReadLimit noIndexRead m (r ∷ []) (omega arith)) in
       let n : l .count + 1 ≡ length (m ++ r ∷ []) = omega arith in
       rw (← test, e) (λ j. record { at = a j; count = n j })
 
@@ -74,6 +76,7 @@ module _ (l : IndexReadList) (m : List IndexRead) (i t : ℕ) (b : Bool) (holds 
 unfoldable pub indexReadsFrom : IndexReadList → Bool → Tx → Tx
 indexReadsFrom l conflict x = withIndexReadArray (l .at) (l .count) conflict x
 
-pub index-reads-from : (l : IndexReadList) (m : List IndexRead) (conflict : Bool) (x : Tx) → l ≡ indexReadList m → indexReadsFrom l conflict x ≡ withIndexReads m conflict x
+pub index-reads-from : (l : IndexReadList) (m : List IndexRead) (conflict : Bool) (x : Tx) → l ≡ indexReadList m
+    → indexReadsFrom l conflict x ≡ withIndexReads m conflict x
 unfolding indexReadsFrom indexReadList
 index-reads-from l m conflict x holds = rw (ap (λ q. q .at) holds, ap (λ q. q .count) holds)

@@ -6,10 +6,10 @@ ghost use Rattle.fields.specs.Lent.{atPostings};
 ghost use Rattle.fields.specs.Marks.{markAll};
 ghost use Rattle.recording.specs.MarkedRows.{noRows};
 ghost use Rattle.recording.specs.CandidateTurns.{postedRows, ownRows, candidateMarks};
+use fields::lent::clipped;
 use records::RowId;
 use records::Store;
 use records::Tx;
-use fields::lent::clipped;
 
 // The rows of the postings of key k.
 fn posted_rows(postings: &[u64; Store::POSTINGS], count: usize, k: u32) -> [bool; RowId::ROWS]

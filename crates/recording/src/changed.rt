@@ -8,10 +8,10 @@ ghost use Rattle.recording.specs.ReadList.{readsFrom};
 ghost use Rattle.recording.specs.StampList.{indexReadsFrom};
 use super::reads::ReadList;
 use super::stamps::IndexReadList;
+use fields::lent::clipped;
 use records::Tx;
 use records::Txid;
 use records::Write;
-use fields::lent::clipped;
 
 // Its reads those of a list, as many as it has places for.
 pub fn with_reads(x: Tx, l: ReadList) -> Tx

@@ -11,12 +11,12 @@ ghost use Rattle.recording.specs.LookupTurns.{recordReadsOf, matchingOf}
 use super::reads::ReadList;
 use super::reads::reads_of;
 use super::reads::record_read;
-use visibility::found::read_ptr;
+use fields::lent::flag_at;
+use fields::lent::key_at;
 use records::RowId;
 use records::SlotPtr;
 use records::Tx;
-use fields::lent::flag_at;
-use fields::lent::key_at;
+use visibility::found::read_ptr;
 
 // The transaction's reads with those of the marked rows recorded, rising.
 pub fn record_marked<'a>(
@@ -26,7 +26,8 @@ pub fn record_marked<'a>(
     marks: &'a [bool; RowId::ROWS],
     x: Tx,
 ) -> ReadList
-    ensures { λ l. ⌜ l ≡ laid (recordReadsOf (atRows (now (heads .entry))) (atPlaces (now (next .entry))) (atPlaces (now (xmin .entry))) x (markedRows (flagsAtRows (now (marks .entry)))) (readsOf x)) ⌝ }
+    ensures { λ l. ⌜ l ≡ laid (recordReadsOf (atRows (now (heads .entry))) (atPlaces (now (next .entry))) (atPlaces (now (xmin .entry))) x
+        (markedRows (flagsAtRows (now (marks .entry)))) (readsOf x)) ⌝ }
 {
     let mut l = reads_of(x);
     let mut i: usize = 0;
@@ -74,7 +75,8 @@ pub fn matching<'a>(
     x: Tx,
     k: u32,
 ) -> RowList
-    ensures { λ l. ⌜ l ≡ rowList (matchingOf (atRows (now (heads .entry))) (atPlaces (now (next .entry))) (atPlaces (now (xmin .entry))) (atPlaces (now (key .entry))) (flagsAtPlaces (now (has .entry))) x k (markedRows (flagsAtRows (now (marks .entry))))) ⌝ }
+    ensures { λ l. ⌜ l ≡ rowList (matchingOf (atRows (now (heads .entry))) (atPlaces (now (next .entry))) (atPlaces (now (xmin .entry)))
+        (atPlaces (now (key .entry))) (flagsAtPlaces (now (has .entry))) x k (markedRows (flagsAtRows (now (marks .entry))))) ⌝ }
 {
     let mut at = [RowId(0); RowId::ROWS];
     let mut count: usize = 0;

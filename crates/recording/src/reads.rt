@@ -7,13 +7,13 @@ ghost use Rattle.rules.specs.Lists.{any};
 ghost use Rattle.rules.specs.Transaction.{readsOf};
 ghost use Rattle.fields.specs.Lent.{atRows, atPlaces};
 ghost use Rattle.recording.specs.ReadList.{laid, ofPtr, recordReadOf};
-use visibility::found::recorded;
+use fields::lent::clipped;
+use fields::lent::txid_at;
 use records::ReadRecord;
 use records::RowId;
 use records::SlotPtr;
 use records::Tx;
-use fields::lent::clipped;
-use fields::lent::txid_at;
+use visibility::found::recorded;
 
 // A list of reads: its first ones in an array, and whether there are more than the array has places.
 pub struct ReadList {
@@ -80,7 +80,8 @@ pub(crate) fn record_read<'a>(
     r: RowId,
     l: ReadList,
 ) -> ReadList
-    ensures { λ q. ⌜ ((m : List ReadRecord) → l ≡ laid m → q ≡ laid (recordReadOf (atRows (now (heads .entry))) (atPlaces (now (next .entry))) (atPlaces (now (xmin .entry))) x (r .0) m)) ⌝ }
+    ensures { λ q. ⌜ ((m : List ReadRecord) → l ≡ laid m
+        → q ≡ laid (recordReadOf (atRows (now (heads .entry))) (atPlaces (now (next .entry))) (atPlaces (now (xmin .entry))) x (r .0) m)) ⌝ }
 {
     let p = recorded(heads, next, xmin, x, r);
     if p.0 == 0 {
@@ -108,7 +109,8 @@ pub fn with_read<'a>(
     x: Tx,
     r: RowId,
 ) -> ReadList
-    ensures { λ l. ⌜ l ≡ laid (recordReadOf (atRows (now (heads .entry))) (atPlaces (now (next .entry))) (atPlaces (now (xmin .entry))) x (r .0) (readsOf x)) ⌝ }
+    ensures { λ l. ⌜ l ≡ laid
+        (recordReadOf (atRows (now (heads .entry))) (atPlaces (now (next .entry))) (atPlaces (now (xmin .entry))) x (r .0) (readsOf x)) ⌝ }
 {
     let l = reads_of(x);
     record_read(heads, next, xmin, x, r, l)

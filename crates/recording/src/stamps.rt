@@ -8,12 +8,12 @@ ghost use Rattle.rules.specs.Transaction.{indexReadsOf};
 ghost use Rattle.rules.specs.Calls.{recordStamp};
 ghost use Rattle.fields.specs.Lent.{atStripes};
 ghost use Rattle.recording.specs.StampList.{indexReadList, ofStripe, indexConflict};
-use visibility::sees;
+use fields::lent::clipped;
 use records::IndexRead;
 use records::Store;
 use records::Tx;
 use records::Txid;
-use fields::lent::clipped;
+use visibility::sees;
 
 // A list of index reads in an array; a count above its places means that the last one has none.
 pub struct IndexReadList {

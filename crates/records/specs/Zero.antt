@@ -2,7 +2,8 @@
 use mathlib.Core.Bool.{Bool, false}
 use Prim.Native.Nat.{ℕ}
 use lib.ListN.{replicate}
-use Rattle.records.specs.Limits.{rows, places, postingLimit, stripes, partitions, activeLimit, writeLimit, readLimit, indexReadLimit, savepointLimit, faultLimit}
+use Rattle.records.specs.Limits.{rows, places, postingLimit, stripes, partitions, activeLimit}
+use Rattle.records.specs.Limits.{writeLimit, readLimit, indexReadLimit, savepointLimit, faultLimit}
 use Rattle.records.specs.declared.Store.{Store}
 use Rattle.records.specs.declared.Tx.{Tx}
 use Rattle.records.specs.declared.Write.{Write}

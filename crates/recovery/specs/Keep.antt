@@ -69,7 +69,8 @@ module _ {A : Type 0} {z : A} {m : List ℕ} where
   module _ {x₀ x : List A} {i : ℕ} (k : Kept z m x₀ x i) where
     -- the place at i is cleared, or stays; and the end
     pub kept-clear : i < places → on m i ≡ false → Kept z m x₀ (set x i z) (i + 1)
-    kept-clear h e = record { long = simp length-set (k .long); from = simp length-set (k .from); left = keep-clear z m x i (omega (arith, k .long)) e ∙ k .left }
+    kept-clear h e =
+        record { long = simp length-set (k .long); from = simp length-set (k .from); left = keep-clear z m x i (omega (arith, k .long)) e ∙ k .left }
 
     pub kept-stay : i < places → on m i ≡ true → Kept z m x₀ x (i + 1)
     kept-stay h e = record { long = k .long; from = k .from; left = keep-stay z m x i (omega (arith, k .long)) e ∙ k .left }

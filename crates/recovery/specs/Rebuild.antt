@@ -31,7 +31,8 @@ module _ (key : List ℕ) (has : List Bool) (heads : List ℕ) where
   rebuild-start = rw (array-end rows 0 heads rows (omega arith)) (record { at = refl; count = refl })
 
   -- those from row 0 on are all
-  pub rebuild-end : (r : ℕ) {x : List ℕ} {n : ℕ} → r ≡ 0 → Packed (postingsFrom r) postingLimit x n → Packed (headPostings key has 0 (atRows heads)) postingLimit x n
+  pub rebuild-end : (r : ℕ) {x : List ℕ} {n : ℕ} → r ≡ 0 → Packed (postingsFrom r) postingLimit x n
+      → Packed (headPostings key has 0 (atRows heads)) postingLimit x n
   unfolding postingsFrom
   rebuild-end r e p = rw e at p
 
@@ -51,7 +52,8 @@ module _ (key : List ℕ) (has : List Bool) (heads x : List ℕ) (n r i : ℕ) (
   before : r ≡ suc (r - 1)
   before = omega arith
 
-  next : postingsFrom key has heads (r - 1) ≡ cond (getD has i false) (into (posting (getD key i 0) (r - 1)) (postingsFrom key has heads r)) (postingsFrom key has heads r)
+  next : postingsFrom key has heads (r - 1)
+      ≡ cond (getD has i false) (into (posting (getD key i 0) (r - 1)) (postingsFrom key has heads r)) (postingsFrom key has heads r)
   next = rw (← before) at (postings-next key has heads (r - 1) i (omega arith) e)
 
   pub rebuild-none : getD has i false ≡ false → Packed (postingsFrom key has heads (r - 1)) postingLimit x n

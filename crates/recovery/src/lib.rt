@@ -10,10 +10,9 @@ mod rebuild;
 mod trim;
 
 use clear::clear_heads;
+use fields::walk::walk_all;
 use keep::keep_all;
 use rebuild::rebuild;
-use resting::repair::repairable;
-use trim::trim_heads;
 use records::Fate;
 use records::Mended;
 use records::Refusal;
@@ -21,7 +20,8 @@ use records::RowId;
 use records::SlotPtr;
 use records::Store;
 use records::Txid;
-use fields::walk::walk_all;
+use resting::repair::repairable;
+use trim::trim_heads;
 
 // What recovery makes of a store.
 fn recovered(s: Store) -> Store

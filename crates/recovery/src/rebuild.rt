@@ -6,9 +6,9 @@ ghost use Rattle.packed.specs.Packed.{Packed};
 ghost use Rattle.fields.specs.Lent.{atRows};
 use super::reads::flag_at;
 use super::reads::word_at;
+use fields::lent::place;
 use records::RowId;
 use records::Store;
-use fields::lent::place;
 
 // Rows from the last down: each goes in front of those above it, as the definition puts them.
 pub fn rebuild<'a>(

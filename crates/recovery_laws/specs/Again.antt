@@ -38,7 +38,8 @@ module _ (S : Store) (x : Tx) (logged : Bool) (plan : Schedule) (z : Sized S) wh
   ran = applyAll (runOf S x logged plan .puts) S
 
   -- repairable, with none but the doomed txid unfinished on chains
-  ran-rests : Admitted S x plan → (L : ℕ → List ℕ) × Mends ran L × Sole (ran .heads) (ran .xmin) (ran .xmax) (finished (ran .active) (ran .doomed)) L (ran .doomed)
+  ran-rests : Admitted S x plan
+      → (L : ℕ → List ℕ) × Mends ran L × Sole (ran .heads) (ran .xmin) (ran .xmax) (finished (ran .active) (ran .doomed)) L (ran .doomed)
   ran-rests ok =
       let ps = runOf S x logged plan .puts in
       ⊎-elim
@@ -49,7 +50,8 @@ module _ (S : Store) (x : Tx) (logged : Bool) (plan : Schedule) (z : Sized S) wh
       (told S x logged plan z ok (outcome S x logged plan))
 
   -- the store that a commit leaves when it is neither cut nor refused at once
-  run-rests : Keyed S → (cut : Cut) (T : ℕ → Bool) → T 18 ≡ false → (ok : Admitted S x plan) → T (numberOf (commit S x logged plan cut .refusal)) ≡ true → resting (commit S x logged plan cut .store) ≡ true
+  run-rests : Keyed S → (cut : Cut) (T : ℕ → Bool) → T 18 ≡ false → (ok : Admitted S x plan)
+      → T (numberOf (commit S x logged plan cut .refusal)) ≡ true → resting (commit S x logged plan cut .store) ≡ true
   unfolding uncut
   run-rests k cut T eighteen ok h =
       let D = commit S x logged plan cut .store in
@@ -68,7 +70,8 @@ module _ (S : Store) (x : Tx) (logged : Bool) (plan : Schedule) (z : Sized S) wh
       }))
 
   -- a commit on a resting store leaves a resting store, unless it is cut: T is a test of numbers that 18 fails
-  pub commit-rests : Keyed S → resting S ≡ true → (cut : Cut) (T : ℕ → Bool) → T 18 ≡ false → let a = commit S x logged plan cut in T (numberOf (a .refusal)) ≡ true → resting (a .store) ≡ true
+  pub commit-rests : Keyed S → resting S ≡ true → (cut : Cut) (T : ℕ → Bool) → T 18 ≡ false
+      → let a = commit S x logged plan cut in T (numberOf (a .refusal)) ≡ true → resting (a .store) ≡ true
   commit-rests k r cut T eighteen h =
       by (fit S x && scheduleFit plan)
       (λ f. by (memb (x .txid .0) (activeTxids (S .active)))
@@ -78,11 +81,14 @@ module _ (S : Store) (x : Tx) (logged : Bool) (plan : Schedule) (z : Sized S) wh
       (λ f. rw (row-2 S x logged plan cut r f) r)
 
   -- 0 and 17: the rows show what was written, and the txid is active no longer
-  pub stood : Admitted S x plan → stands (runOf S x logged plan .end .refusal) ≡ true → Shows (withNew (S .key) (S .has) (finals x) (shown S)) ran × (memb (x .txid .0) (activeTxids (ran .active)) ≡ false)
+  pub stood : Admitted S x plan → stands (runOf S x logged plan .end .refusal) ≡ true
+      → Shows (withNew (S .key) (S .has) (finals x) (shown S)) ran × (memb (x .txid .0) (activeTxids (ran .active)) ≡ false)
   stood ok st =
       let ps = runOf S x logged plan .puts in
       ⊎-elim
       (λ h. clash st (h .0))
-      (λ h. let k = to-end (Either S x logged plan) (New S x logged plan) ps S (h .1) in
-      (lives-shows (new S x logged plan) (dropped (S .active) (x .txid .0)) (S .doomed) (S .doomed) ran (sized-all ps S z) k, rw (k .1 .act-is) (gone S x logged plan z ok)))
+      (λ h. let k = to-end (Either S x logged plan) (New S x logged plan) ps S (h .1) in (
+        lives-shows (new S x logged plan) (dropped (S .active) (x .txid .0)) (S .doomed) (S .doomed) ran (sized-all ps S z) k,
+        rw (k .1 .act-is) (gone S x logged plan z ok),
+      ))
       (told S x logged plan z ok (outcome S x logged plan))

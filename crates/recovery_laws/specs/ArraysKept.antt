@@ -113,7 +113,8 @@ clear-zero f [] xmax x e = e
 clear-zero f (h ∷ hs) xmax x e = clear-zero f hs (once f h xmax) x (once-zero f h xmax x e)
 
 -- a head's: 0
-pub clear-here : (f : ℕ → Bool) (hs xmax : List ℕ) (x : ℕ) → memb x hs ≡ true → x < length xmax → (getD xmax x 0 ≡ 0) ⊎ (f (getD xmax x 0) ≡ false) → getD (clear f hs xmax) x 0 ≡ 0
+pub clear-here : (f : ℕ → Bool) (hs xmax : List ℕ) (x : ℕ) → memb x hs ≡ true → x < length xmax → (getD xmax x 0 ≡ 0) ⊎ (f (getD xmax x 0) ≡ false)
+    → getD (clear f hs xmax) x 0 ≡ 0
 clear-here f [] xmax x m lt e = clash {b = false} m refl
 clear-here f (h ∷ hs) xmax x m lt (inl e) = clear-zero f hs (once f h xmax) x (once-zero f h xmax x e)
 clear-here f (h ∷ hs) xmax x m lt (inr n) = by (eqb x h)

@@ -7,7 +7,8 @@ use lib.Dec.{eqb}
 use Rattle.records.specs.Setters.{dressed}
 use Rattle.rules.specs.Lists.{memb}
 use Rattle.rules.specs.Types.{Store}
-use Rattle.rules.specs.Puts.{Put, kStripe, kPartition, kInsert, kRemove, kXmax, kHead, kFree, kDrop, kStamp, kPoison, kDoom, kEnter, kClock, kXmin, kNext, kKey, kLock, apply}
+use Rattle.rules.specs.Puts.{Put, kStripe, kPartition, kInsert, kRemove, kXmax, kHead, kFree, kDrop}
+use Rattle.rules.specs.Puts.{kStamp, kPoison, kDoom, kEnter, kClock, kXmin, kNext, kKey, kLock, apply}
 use Rattle.basic_laws.specs.Cases.{and-true}
 use Rattle.run_laws.specs.OnlyKinds.{only, is-not}
 use Rattle.admitted_laws.specs.Repairable.{Mends}
@@ -46,5 +47,7 @@ calmly I c (p ∷ ps) o X h =
     let a = and-true (memb (p .kind) calm) (only calm ps) o in
     let Y = apply p X in (
       h,
-      calmly I c ps (a .1) Y (subst I (sym (calm-put p X (a .0))) (c (Y .«stripe_guards») (Y .«partition_guards») (Y .postings) (Y .«posting_count») (Y .stamps) (Y .poisoned) X h)),
+      calmly I c ps (a .1) Y
+          (subst I (sym (calm-put p X (a .0)))
+          (c (Y .«stripe_guards») (Y .«partition_guards») (Y .postings) (Y .«posting_count») (Y .stamps) (Y .poisoned) X h)),
     )

@@ -45,4 +45,8 @@ module _ (S : Store) (x : Tx) (logged : Bool) (plan : Schedule) where
   keyed-run k n =
       let ps = take n (runOf S x logged plan .puts) in
       at-all (λ c. ltb c keyEnd) (applyAll ps S .key) 0 (λ p lt. lt-ltb (getD (applyAll ps S .key) p 0) keyEnd
-      (omega (arith, ltb-true (getD (S .key) p 0) keyEnd (all-get (λ c. ltb c keyEnd) (S .key) p 0 k refl), keys-kept ps S (only-take counted n (runOf S x logged plan .puts) (run-counted S x logged plan)) p)))
+      (omega (
+        arith,
+        ltb-true (getD (S .key) p 0) keyEnd (all-get (λ c. ltb c keyEnd) (S .key) p 0 k refl),
+        keys-kept ps S (only-take counted n (runOf S x logged plan .puts) (run-counted S x logged plan)) p,
+      )))

@@ -23,7 +23,8 @@ module _ (t : ℕ) where
   long-drop X Z = record { heads = Z .heads; xmax = Z .xmax; next = Z .next; active = pad-length activeLimit 0 (without t (activeTxids (X .active))) }
 
   -- a store that stands with t finished is repairable without it
-  mends-drop : (X : Store) (L : ℕ → List ℕ) → Long X → Mends X L → Stands (X .heads) (X .xmin) (X .xmax) (X .next) (finished (dropped (X .active) t) (X .doomed)) L → Mends (apply (putDrop t) X) L
+  mends-drop : (X : Store) (L : ℕ → List ℕ) → Long X → Mends X L
+      → Stands (X .heads) (X .xmin) (X .xmax) (X .next) (finished (dropped (X .active) t) (X .doomed)) L → Mends (apply (putDrop t) X) L
   mends-drop X L Z M T = record {
     started = M .started;
     slots = M .slots;
@@ -34,7 +35,8 @@ module _ (t : ℕ) where
   }
 
   -- dropped when it is due: the rows show the new values
-  pub due-dropped : (old new : ℕ → Value) (act : List ℕ) (doom who : ℕ) (X : Store) → Due t old new act doom who [] X → Lives new (dropped act t) doom doom (apply (putDrop t) X)
+  pub due-dropped : (old new : ℕ → Value) (act : List ℕ) (doom who : ℕ) (X : Store) → Due t old new act doom who [] X
+      → Lives new (dropped act t) doom doom (apply (putDrop t) X)
   due-dropped old new act doom who X D =
       let K = D .live in
       let M = K .mends in (
@@ -46,7 +48,10 @@ module _ (t : ℕ) where
             led = M .stands .led;
             versions = rw (K .act-is, K .doom-is) (D .good);
             off = λ p u o. let O = M .stands .off p u o in record {
-              unfinished = drop-other (X .active) (X .clock) (M .listed) (K .long .active) t (X .doomed) (getD (X .xmin) p 0) (λ e. clash {b = false} (D .mine p o e) refl) ∙ O .unfinished;
+              unfinished =
+                  drop-other (X .active) (X .clock) (M .listed) (K .long .active) t (X .doomed) (getD (X .xmin) p 0)
+                  (λ e. clash {b = false} (D .mine p o e) refl)
+                  ∙ O .unfinished;
               unmarked = O .unmarked;
               within = O .within;
             };
@@ -63,7 +68,8 @@ module _ (t : ℕ) where
     pub doomed-dropped : (X : Store) → Lives old act t t X → Lives old (dropped act t) t t (apply (putDrop t) X)
     doomed-dropped X (L, K) =
         let M = K .mends in
-        let e : finished (dropped act t) t ≡ finished act t = fun-ext (λ u. drop-doomed act (X .clock) (rw (K .act-is) at (M .listed)) (rw (K .act-is) at (K .long .active)) t u (λ z. omega arith) (active-in t act on)) in (
+        let e : finished (dropped act t) t ≡ finished act t = fun-ext (λ u.
+        drop-doomed act (X .clock) (rw (K .act-is) at (M .listed)) (rw (K .act-is) at (K .long .active)) t u (λ z. omega arith) (active-in t act on)) in (
           L,
           record {
             long = long-drop X (K .long);

@@ -11,14 +11,18 @@ use lib.Dec.{eqb}
 use borrow.Author.Tests.{eqb-true, eqb-false}
 use Rattle.rules.specs.Lists.{all, memb}
 use Rattle.rules.specs.Types.{Store, Tx, Schedule, Fate, Refusal}
-use Rattle.rules.specs.Puts.{Put, kStripe, kPartition, kInsert, kRemove, kXmax, kHead, kFree, kDrop, kStamp, kPoison, kDoom, kKey, is, putDrop, putPoison, putDoom, abortPuts, apply, applyAll}
+use Rattle.rules.specs.Puts.{Put, kStripe, kPartition, kInsert, kRemove, kXmax, kHead, kFree, kDrop, kStamp}
+use Rattle.rules.specs.Puts.{kPoison, kDoom, kKey, is, putDrop, putPoison, putDoom, abortPuts, apply, applyAll}
 use Rattle.rules.specs.Changes.{changes, destinations, release, insertions, removals, publication, recycling, stamping}
 use Rattle.rules.specs.Commit.{End, poison, fails, count, finish, abortOrPoison, rollback, runOf}
 use Rattle.basic_laws.specs.Cases.{by, and-true}
 use Rattle.run_laws.specs.OnlyKinds.{only, only-take, only-if, is-not}
-use Rattle.run_laws.specs.Outcome.{Passed, guardsTaken, afterInsert, afterRemove, afterPublish, afterRecycle, afterFinish, afterStamp, aborting, rollingBack, worse, undoing, abortingLate, Spoil, unremoved, unpublished, unrecycled, unfinished, Outcome, done, stays, aborts, uninserted, uncalled, spoils, unstamped, outcome}
+use Rattle.run_laws.specs.Outcome.{Passed, guardsTaken, afterInsert, afterRemove, afterPublish, afterRecycle, afterFinish, afterStamp}
+use Rattle.run_laws.specs.Outcome.{aborting, rollingBack, worse, undoing, abortingLate, Spoil, unremoved, unpublished, unrecycled}
+use Rattle.run_laws.specs.Outcome.{unfinished, Outcome, done, stays, aborts, uninserted, uncalled, spoils, unstamped, outcome}
 use Rattle.basic_laws.specs.AllOf.{all-then, all-append, all-take}
-use Rattle.run_laws.specs.Kinds.{taken-kinds, release-kinds, insertions-kind, removals-kind, publication-kinds, recycling-kind, stamping-kind, poison-kind, abort-kinds, rollback-kinds}
+use Rattle.run_laws.specs.Kinds.{taken-kinds, release-kinds, insertions-kind, removals-kind, publication-kinds}
+use Rattle.run_laws.specs.Kinds.{recycling-kind, stamping-kind, poison-kind, abort-kinds, rollback-kinds}
 use Rattle.basic_laws.specs.Members.{all-mem}
 use Rattle.recovery_laws.specs.Calm.{calm}
 use Rattle.recovery_laws.specs.PutBlocks.{guards-kinds, insert-kinds, remove-kinds}
@@ -30,7 +34,8 @@ counted = kStripe ∷ kPartition ∷ kInsert ∷ kRemove ∷ kXmax ∷ kHead ∷
 -- a test that each part of a run passes: guards, postings, stamps and poison; publication, past the tests; recycling; an abort's stores; the
 -- drop and the doom
 module _ (T : Put → Bool) (aside : (p : Put) → memb (p .kind) calm ≡ true → T p ≡ true) (S : Store) (x : Tx) (logged : Bool) (plan : Schedule)
-    (published : Passed S x logged plan → all T (publication x) ≡ true) (recycles : all T (recycling S x) ≡ true) (aborted : all T (abortPuts S (x .txid .0)) ≡ true)
+    (published : Passed S x logged plan → all T (publication x) ≡ true) (recycles : all T (recycling S x) ≡ true)
+    (aborted : all T (abortPuts S (x .txid .0)) ≡ true)
     (drops : T (putDrop (x .txid .0)) ≡ true) (dooms : T (putDoom (x .txid .0)) ≡ true) where
   abbrev t : ℕ
   t = x .txid .0
@@ -79,27 +84,37 @@ module _ (T : Put → Bool) (aside : (p : Put) → memb (p .kind) calm ≡ true 
   rolling b made = calmly (rollback S x logged plan b made .puts) (rollback-kinds calm S x logged plan refl refl b made)
 
   spoiling : (made some finishing : List Put) → Holds made → Holds some → Holds finishing → Holds (made ++ (some ++ finishing ++ release S x))
-  spoiling made some finishing a b c = and-then made (some ++ finishing ++ release S x) a (and-then (some ++ finishing) (release S x) (and-then some finishing b c) let-go)
+  spoiling made some finishing a b c =
+      and-then made (some ++ finishing ++ release S x) a (and-then (some ++ finishing) (release S x) (and-then some finishing b c) let-go)
 
-  spoiled : {n : ℕ} {made some ending : List Put} {poisons : Put} {kind : Fate → Refusal} {y : Tx} {drops : Bool} → Passed S x logged plan → Spoil S x logged plan n made some poisons ending kind y drops
+  spoiled : {n : ℕ} {made some ending : List Put} {poisons : Put} {kind : Fate → Refusal} {y : Tx} {drops : Bool} → Passed S x logged plan
+      → Spoil S x logged plan n made some poisons ending kind y drops
       → Holds (made ++ (some ++ poisons ∷ ending ++ release S x))
   spoiled p (unremoved k) =
       let n = count S x logged plan 17 in
-      spoiling (afterInsert S x logged plan) (take n (removals S x)) (putPoison ∷ []) to-15 (calmly (take n (removals S x)) (only-take calm n (removals S x) (removals-kind calm S x refl))) (calmly (putPoison ∷ []) refl)
+      spoiling (afterInsert S x logged plan) (take n (removals S x)) (putPoison ∷ []) to-15
+      (calmly (take n (removals S x)) (only-take calm n (removals S x) (removals-kind calm S x refl))) (calmly (putPoison ∷ []) refl)
   spoiled p (unpublished k) =
       let n = count S x logged plan 18 in
-      spoiling (afterRemove S x logged plan) (take n (publication x)) (putDoom t ∷ finish S x logged plan) to-17 (all-take T n (publication x) (published p)) doomed
+      spoiling (afterRemove S x logged plan) (take n (publication x)) (putDoom t ∷ finish S x logged plan) to-17
+      (all-take T n (publication x) (published p)) doomed
   spoiled p (unrecycled k) =
       let n = count S x logged plan 19 in
-      spoiling (afterPublish S x logged plan) (take n (recycling S x)) (putDoom t ∷ finish S x logged plan) (to-18 p) (all-take T n (recycling S x) recycles) doomed
+      spoiling (afterPublish S x logged plan) (take n (recycling S x)) (putDoom t ∷ finish S x logged plan) (to-18 p)
+      (all-take T n (recycling S x) recycles) doomed
   spoiled p (unfinished k) = spoiling (afterRecycle S x logged plan) [] (putDoom t ∷ []) (to-19 p) refl (rw dooms)
 
   passes : {n : ℕ} {ps : List Put} {d : End} → Outcome S x logged plan n ps d → Holds ps
-  passes (done p) = and-then (afterStamp S x logged plan) (release S x) (and-then (afterFinish S x logged plan) (stamping S x) (to-21 p) (calmly (stamping S x) (stamping-kind calm S x refl))) let-go
-  passes (stays {taken = taken} {back = back} l h k) = let c = guards-kinds calm refl refl S x logged plan h in and-then taken back (calmly taken (c .0)) (calmly back (c .1))
+  passes (done p) =
+      and-then (afterStamp S x logged plan) (release S x)
+      (and-then (afterFinish S x logged plan) (stamping S x) (to-21 p) (calmly (stamping S x) (stamping-kind calm S x refl))) let-go
+  passes (stays {taken = taken} {back = back} l h k) =
+      let c = guards-kinds calm refl refl S x logged plan h in
+      and-then taken back (calmly taken (c .0)) (calmly back (c .1))
   passes (aborts {taken = taken} {back = back} l h k) =
       let c = guards-kinds calm refl refl S x logged plan h in
-      and-then taken (back ++ aborting S x logged plan .puts) (calmly taken (c .0)) (and-then back (aborting S x logged plan .puts) (calmly back (c .1)) (cleaning (S .poisoned)))
+      and-then taken (back ++ aborting S x logged plan .puts) (calmly taken (c .0))
+      (and-then back (aborting S x logged plan .puts) (calmly back (c .1)) (cleaning (S .poisoned)))
   passes (uninserted p k) =
       let n = count S x logged plan 15 in
       let some = take n (insertions S x) in
@@ -119,7 +134,8 @@ module _ (T : Put → Bool) (aside : (p : Put) → memb (p .kind) calm ≡ true 
   passes (unstamped p k) =
       let some = take (count S x logged plan 22) (stamping S x) in
       and-then (afterFinish S x logged plan) (some ++ putPoison ∷ release S x) (to-21 p)
-      (and-then some (putPoison ∷ release S x) (calmly some (only-take calm (count S x logged plan 22) (stamping S x) (stamping-kind calm S x refl))) (and-then (putPoison ∷ []) (release S x) (calmly (putPoison ∷ []) refl) let-go))
+      (and-then some (putPoison ∷ release S x) (calmly some (only-take calm (count S x logged plan 22) (stamping S x) (stamping-kind calm S x refl)))
+      (and-then (putPoison ∷ []) (release S x) (calmly (putPoison ∷ []) refl) let-go))
 
   -- every run passes it
   pub run-all : all T (runOf S x logged plan .puts) ≡ true

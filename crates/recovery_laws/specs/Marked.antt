@@ -33,17 +33,20 @@ pub data Phase (xmin xmax : List ℕ) (f : ℕ → Bool) (t : ℕ) : List ℕ �
   out : {x : ℕ} {l : List ℕ} → getD xmin x 0 ≡ t → getD xmax x 0 ≡ 0 → Tail xmin xmax f t l → Phase xmin xmax f t (x ∷ l)
 
 -- once t is finished, its new version is the first finished one
-pub phase-done : (xmin xmax : List ℕ) (f f′ : ℕ → Bool) (t : ℕ) (l : List ℕ) → ((u : ℕ) → f u ≡ true → f′ u ≡ true) → f′ t ≡ true → Phase xmin xmax f t l → Tail xmin xmax f′ 0 l
+pub phase-done : (xmin xmax : List ℕ) (f f′ : ℕ → Bool) (t : ℕ) (l : List ℕ) → ((u : ℕ) → f u ≡ true → f′ u ≡ true) → f′ t ≡ true
+    → Phase xmin xmax f t l → Tail xmin xmax f′ 0 l
 phase-done xmin xmax f f′ t l g d (yet h) = tail-cong xmin xmax xmin xmax f f′ 0 l (λ x m. refl) (λ x m. refl) (λ x m. g (getD xmin x 0)) h
 phase-done xmin xmax f f′ t _ g d (out {l = l} e z h) =
     (rw e d, z, rw e (tail-cong xmin xmax xmin xmax f f′ t l (λ x m. refl) (λ x m. refl) (λ x m. g (getD xmin x 0)) h))
 
 -- xmax set at a slot off the list
 pub tail-aside : (xmin xmax : List ℕ) (f : ℕ → Bool) (v : ℕ) (l : List ℕ) (s u : ℕ) → memb s l ≡ false → Tail xmin xmax f v l → Tail xmin (set xmax s u) f v l
-tail-aside xmin xmax f v l s u off = tail-cong xmin xmax xmin (set xmax s u) f f v l (λ x m. refl) (λ x m. getD-set-other xmax s x u 0 (mem-ne x s l m off)) (λ x m e. e)
+tail-aside xmin xmax f v l s u off =
+    tail-cong xmin xmax xmin (set xmax s u) f f v l (λ x m. refl) (λ x m. getD-set-other xmax s x u 0 (mem-ne x s l m off)) (λ x m e. e)
 
 -- and a row that lacks the slot
-pub phase-aside : (xmin xmax : List ℕ) (f : ℕ → Bool) (t : ℕ) (l : List ℕ) (s u : ℕ) → memb s l ≡ false → Phase xmin xmax f t l → Phase xmin (set xmax s u) f t l
+pub phase-aside : (xmin xmax : List ℕ) (f : ℕ → Bool) (t : ℕ) (l : List ℕ) (s u : ℕ) → memb s l ≡ false → Phase xmin xmax f t l
+    → Phase xmin (set xmax s u) f t l
 phase-aside xmin xmax f t l s u off (yet h) = yet (tail-aside xmin xmax f 0 l s u off h)
 phase-aside xmin xmax f t _ s u off (out {x = x} {l = l} e z h) =
     let k = or-false (eqb s x) (memb s l) off in

@@ -32,7 +32,8 @@ module _ (X : Store) (L : ℕ → List ℕ) (s : ℕ) (off : Off (X .heads) L s)
   kept l a z r x lt m = getD-set-other l s x a z (mem-ne x s (L r) m (off r lt))
 
   good-freed : (f : ℕ → Bool) (r : ℕ) → r < length (X .heads) → Good (X .xmin) (X .xmax) f (L r) → Good (set (X .xmin) s 0) (set (X .xmax) s 0) f (L r)
-  good-freed f r lt = good-cong (X .xmin) (X .xmax) (set (X .xmin) s 0) (set (X .xmax) s 0) f (L r) (λ x m. kept (X .xmin) 0 0 r x lt m) (λ x m. kept (X .xmax) 0 0 r x lt m)
+  good-freed f r lt =
+      good-cong (X .xmin) (X .xmax) (set (X .xmin) s 0) (set (X .xmax) s 0) f (L r) (λ x m. kept (X .xmin) 0 0 r x lt m) (λ x m. kept (X .xmax) 0 0 r x lt m)
 
   -- a row shows what it showed
   shown-freed : (s ≡ 0 → ⊥) → (f : ℕ → Bool) (r : ℕ) → r < length (X .heads)
@@ -41,11 +42,16 @@ module _ (X : Store) (L : ℕ → List ℕ) (s : ℕ) (off : Off (X .heads) L s)
       let g : ℕ → Bool = λ p. f (getD (X .xmin) p 0) in
       let p = firstOf g (L r) in
       let ne : p ≡ s → ⊥ = λ e. ⊎-elim (λ k. nz (sym e ∙ k)) (λ k. mem-ne p s (L r) k (off r lt) e) (first-in g (L r)) in
-      rw (first-same (λ p. f (getD (set (X .xmin) s 0) p 0)) g (L r) (λ x m. ap f (kept (X .xmin) 0 0 r x lt m)), getD-set-other (X .key) s p 0 0 ne, getD-set-other (X .has) s p false false ne)
+      rw (
+        first-same (λ p. f (getD (set (X .xmin) s 0) p 0)) g (L r) (λ x m. ap f (kept (X .xmin) 0 0 r x lt m)),
+        getD-set-other (X .key) s p 0 0 ne,
+        getD-set-other (X .has) s p false false ne,
+      )
 
   -- the slots are what a repairable store's are
   freed-aside : Mends X L
-      → SlotsAside X L (set (X .xmin) s 0) (set (X .xmax) s 0) (set (X .next) s 0) (set (X .key) s 0) (set (X .has) s false) (set (X .locked) s false) (set (X .owner) s 0)
+      → SlotsAside X L (set (X .xmin) s 0) (set (X .xmax) s 0) (set (X .next) s 0) (set (X .key) s 0) (set (X .has) s false)
+      (set (X .locked) s false) (set (X .owner) s 0)
   freed-aside M = record {
     kept = λ r x lt m. record {
       xmin = kept (X .xmin) 0 0 r x lt m;
@@ -58,7 +64,13 @@ module _ (X : Store) (L : ℕ → List ℕ) (s : ℕ) (off : Off (X .heads) L s)
     form = record {
       first = set-zero (X .xmin) s 0 (M .slots .first);
       free = λ p e. by (eqb p s)
-          (λ k. rw (eqb-true p s k) (record { unmarked = set-blank (X .xmax) s 0; unlinked = set-blank (X .next) s 0; empty = set-blank (X .has) s false; unlocked = set-blank (X .locked) s false; unowned = set-blank (X .owner) s 0 }))
+          (λ k. rw (eqb-true p s k) (record {
+            unmarked = set-blank (X .xmax) s 0;
+            unlinked = set-blank (X .next) s 0;
+            empty = set-blank (X .has) s false;
+            unlocked = set-blank (X .locked) s false;
+            unowned = set-blank (X .owner) s 0;
+          }))
           (λ k. let n = eqb-false p s k in
           let F = M .slots .free p (sym (getD-set-other (X .xmin) s p 0 0 n) ∙ e) in
           record {
@@ -103,7 +115,12 @@ module _ (X : Store) (L : ℕ → List ℕ) (s : ℕ) (off : Off (X .heads) L s)
 
   live-freed : (old : ℕ → Value) (act : List ℕ) (doom who : ℕ) → (s ≡ 0 → ⊥) → Live old act doom who X L → Live old act doom who (apply (putFree s) X) L
   live-freed old act doom who nz K = record {
-    long = record { heads = K .long .heads; xmax = length-set (X .xmax) s 0 ∙ K .long .xmax; next = length-set (X .next) s 0 ∙ K .long .next; active = K .long .active };
+    long = record {
+      heads = K .long .heads;
+      xmax = length-set (X .xmax) s 0 ∙ K .long .xmax;
+      next = length-set (X .next) s 0 ∙ K .long .next;
+      active = K .long .active;
+    };
     mends = mends-freed (K .mends);
     act-is = K .act-is;
     doom-is = K .doom-is;

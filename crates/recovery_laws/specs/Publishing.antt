@@ -29,7 +29,8 @@ use Rattle.recovery_laws.specs.Unfinished.{dropped, zero-finished, drop-
 use Rattle.recovery_laws.specs.Along.{To}
 use Rattle.recovery_laws.specs.Calm.{Calm}
 use Rattle.recovery_laws.specs.Live.{Live, Lives, live-calm, Due}
-use Rattle.recovery_laws.specs.Marked.{push-mem, push-off, Phase, phase-done, tail-aside, phase-aside, elsewhere, tail-marked, stands-marked, clean, stands-moved, phase-moved}
+use Rattle.recovery_laws.specs.Marked.{push-mem, push-off, Phase, phase-done, tail-aside, phase-aside}
+use Rattle.recovery_laws.specs.Marked.{elsewhere, tail-marked, stands-marked, clean, stands-moved, phase-moved}
 
 -- a write yet to be published: its new version, of t, lies off every chain over the head of its row, which rests
 pub record Todo (heads xmin xmax next : List ℕ) (f : ℕ → Bool) (t : ℕ) (L : ℕ → List ℕ) (w : Write) : Type 0 where
@@ -135,7 +136,12 @@ module _ (t : ℕ) (old : ℕ → Value) (act : List ℕ) (doom : ℕ) (key : Li
       base-used = O .live .mends .stands .led row base (D .ready .row) base-on
 
       base-low : base < length (X .xmax)
-      base-low = omega (arith, chain-below (X .next) (getD (X .heads) row 0) (O .L row) base (O .live .mends .stands .chains .chain row (D .ready .row)) base-on .1, O .live .long .next, O .live .long .xmax)
+      base-low = omega (
+        arith,
+        chain-below (X .next) (getD (X .heads) row 0) (O .L row) base (O .live .mends .stands .chains .chain row (D .ready .row)) base-on .1,
+        O .live .long .next,
+        O .live .long .xmax,
+      )
 
       stands : Stands (X .heads) (X .xmin) (X .xmax) (X .next) (finished act doom) (O .L)
       stands = rw (O .live .act-is, O .live .doom-is) at (O .live .mends .stands)
@@ -148,13 +154,22 @@ module _ (t : ℕ) (old : ℕ → Value) (act : List ℕ) (doom : ℕ) (key : Li
         started = M .started;
         slots = record {
           first = M .slots .first;
-          free = λ p e. let F = M .slots .free p e in record { unmarked = getD-set-other (X .xmax) base p t 0 (not-base p e) ∙ F .unmarked; unlinked = F .unlinked; empty = F .empty; unlocked = F .unlocked; unowned = F .unowned };
+          free = λ p e. let F = M .slots .free p e in record {
+            unmarked = getD-set-other (X .xmax) base p t 0 (not-base p e) ∙ F .unmarked;
+            unlinked = F .unlinked;
+            empty = F .empty;
+            unlocked = F .unlocked;
+            unowned = F .unowned;
+          };
           absent = M .slots .absent;
         };
         listed = M .listed;
         below = M .below;
         doom = M .doom;
-        stands = rw (O .live .act-is, O .live .doom-is) (stands-marked (X .heads) (X .xmin) (X .xmax) (X .next) (finished act doom) t nf (O .L) stands row base (base-first .0) (D .ready .row) base-low (base-first .1) (D .rest));
+        stands =
+            rw (O .live .act-is, O .live .doom-is)
+            (stands-marked (X .heads) (X .xmin) (X .xmax) (X .next) (finished act doom) t nf (O .L) stands row base (base-first .0) (D .ready .row)
+            base-low (base-first .1) (D .rest));
       }
 
       live-marked : Live old act doom t (apply (putXmax base t) X) (O .L)
@@ -185,7 +200,9 @@ module _ (t : ℕ) (old : ℕ → Value) (act : List ℕ) (doom : ℕ) (key : Li
               ready = T .0 .ready;
               based = T .0 .based;
               mine = T .0 .mine;
-              rest = tail-aside (X .xmin) (X .xmax) (finished act doom) 0 (O .L (v .row .0)) base t (base-else (v .row .0) (T .0 .ready .row) (eqb-false (v .row .0) row (not-true (sameRow w v) (c .0)))) (T .0 .rest);
+              rest =
+                  tail-aside (X .xmin) (X .xmax) (finished act doom) 0 (O .L (v .row .0)) base t
+                  (base-else (v .row .0) (T .0 .ready .row) (eqb-false (v .row .0) row (not-true (sameRow w v) (c .0)))) (T .0 .rest);
             },
             todo-marked vs (a .1) (T .1),
           )
@@ -198,7 +215,9 @@ module _ (t : ℕ) (old : ℕ → Value) (act : List ℕ) (doom : ℕ) (key : Li
         has-is = O .has-is;
         ready = D .ready;
         made = D .mine;
-        here = tail-marked (X .heads) (X .xmin) (X .xmax) (X .next) (finished act doom) t nf (O .L) stands row base (base-first .0) (D .ready .row) base-low (base-first .1) (D .rest);
+        here =
+            tail-marked (X .heads) (X .xmin) (X .xmax) (X .next) (finished act doom) t nf (O .L) stands row base (base-first .0) (D .ready .row)
+            base-low (base-first .1) (D .rest);
         phase = λ r lt n. phase-aside (X .xmin) (X .xmax) (finished act doom) t (O .L r) base t (base-else r lt n) (O .phase r lt);
         todo = todo-marked ws (and-true (all (differs w) ws) (distinct ws) (O .apart) .0) (O .todo .1);
         apart = O .apart;
@@ -230,14 +249,17 @@ module _ (t : ℕ) (old : ℕ → Value) (act : List ℕ) (doom : ℕ) (key : Li
           listed = M .listed;
           below = M .below;
           doom = M .doom;
-          stands = rw (K .act-is, K .doom-is) (stands-moved (X .heads) (X .xmin) (X .xmax) (X .next) (finished act doom) t nf (O .L) stands′ w (O .ready) pos (O .made) (O .here));
+          stands =
+              rw (K .act-is, K .doom-is)
+              (stands-moved (X .heads) (X .xmin) (X .xmax) (X .next) (finished act doom) t nf (O .L) stands′ w (O .ready) pos (O .made) (O .here));
         };
         act-is = K .act-is;
         doom-is = K .doom-is;
         sole = record {
           created = λ q y lt m n. push-mem (O .L) row′ slot q y m (λ e _. rw e (O .made)) (λ k. K .sole .created q y (rw length-set at lt) k n);
           ended = λ q y lt m n. push-mem (O .L) row′ slot q y m
-              (λ e _. clash (zero-finished act doom) (rw (e, clean (X .heads) (X .xmin) (X .xmax) (X .next) (finished act doom) t nf (O .L) stands′ w (O .ready) pos (O .made) (O .here)) at n))
+              (λ e _. clash (zero-finished act doom)
+              (rw (e, clean (X .heads) (X .xmin) (X .xmax) (X .next) (finished act doom) t nf (O .L) stands′ w (O .ready) pos (O .made) (O .here)) at n))
               (λ k. K .sole .ended q y (rw length-set at lt) k n);
         };
         shows = λ r lt. by (eqb r row′) (λ e. rw (e, O .made, nf) (K .shows r lt)) (λ e. rw e (K .shows r lt));
@@ -284,7 +306,9 @@ module _ (t : ℕ) (old : ℕ → Value) (act : List ℕ) (doom : ℕ) (key : Li
             live = live-moved;
             key-is = O .key-is;
             has-is = O .has-is;
-            phase = λ r lt. phase-moved (X .heads) (X .xmin) (X .xmax) (X .next) (finished act doom) t nf (O .L) stands′ w (O .ready) pos (O .made) (O .here) r (O .phase r (rw length-set at lt));
+            phase =
+                λ r lt. phase-moved (X .heads) (X .xmin) (X .xmax) (X .next) (finished act doom) t nf (O .L) stands′ w (O .ready) pos (O .made) (O .here)
+                r (O .phase r (rw length-set at lt));
             todo = todo-moved ws (d .0) (O .todo);
             apart = d .1;
             heads-are = λ r lt. by (eqb r row′) (λ e. rw e) (λ e. rw e (O .heads-are r lt));
@@ -307,12 +331,17 @@ module _ (t : ℕ) (old : ℕ → Value) (act : List ℕ) (doom : ℕ) (key : Li
     publishes (w ∷ ws) new X O = go (publishes ws) (eqb (w .base .0) 0) refl
       where
         go : Publishes ws → (b : Bool) → eqb (w .base .0) 0 ≡ b
-            → To (Lives old act doom t) (On [] (withNew key has (w ∷ ws) new)) (cond b (putHead (w .row .0) (w .new .0) ∷ []) (putXmax (w .base .0) t ∷ putHead (w .row .0) (w .new .0) ∷ []) ++ flat (publishOne t) ws) X
-        go ih true e = ((O .L, O .live), ih _ (apply (putHead (w .row .0) (w .new .0)) X) (on-moved w ws new X (half-none w ws new X O (eqb-true (w .base .0) 0 e))))
+            → To (Lives old act doom t) (On [] (withNew key has (w ∷ ws) new))
+            (cond b (putHead (w .row .0) (w .new .0) ∷ []) (putXmax (w .base .0) t ∷ putHead (w .row .0) (w .new .0) ∷ []) ++ flat (publishOne t) ws) X
+        go ih true e =
+            ((O .L, O .live), ih _ (apply (putHead (w .row .0) (w .new .0)) X) (on-moved w ws new X (half-none w ws new X O (eqb-true (w .base .0) 0 e))))
         go ih false e =
             let h = half-marked w ws new X O (eqb-false (w .base .0) 0 e) in (
               (O .L, O .live),
-              ((h .L, h .live), ih _ (apply (putHead (w .row .0) (w .new .0)) (apply (putXmax (w .base .0) t) X)) (on-moved w ws new (apply (putXmax (w .base .0) t) X) h)),
+              (
+                (h .L, h .live),
+                ih _ (apply (putHead (w .row .0) (w .new .0)) (apply (putXmax (w .base .0) t) X)) (on-moved w ws new (apply (putXmax (w .base .0) t) X) h),
+              ),
             )
 
     -- published: t is due to be dropped
@@ -324,7 +353,8 @@ module _ (t : ℕ) (old : ℕ → Value) (act : List ℕ) (doom : ℕ) (key : Li
         let f′ = finished (dropped act t) doom in
         let now : f′ t ≡ true = drop-this act (X .clock) A long t doom nd in
         let more : (u : ℕ) → finished act doom u ≡ true → f′ u ≡ true = λ u e. drop-other act (X .clock) A long t doom u (λ q. clash e (rw q nf)) ∙ e in
-        let tail : (r : ℕ) → r < length (X .heads) → Tail (X .xmin) (X .xmax) f′ 0 (O .L r) = λ r lt. phase-done (X .xmin) (X .xmax) (finished act doom) f′ t (O .L r) more now (O .phase r lt) in
+        let tail : (r : ℕ) → r < length (X .heads) → Tail (X .xmin) (X .xmax) f′ 0 (O .L r) =
+        λ r lt. phase-done (X .xmin) (X .xmax) (finished act doom) f′ t (O .L r) more now (O .phase r lt) in
         let all-done : (r : ℕ) → r < length (X .heads) → (y : ℕ) → memb y (O .L r) ≡ true → (f′ (getD (X .xmin) y 0) ≡ true) × (f′ (getD (X .xmax) y 0) ≡ true)
         = λ r lt. tail-finished (X .xmin) (X .xmax) f′ 0 (O .L r) (zero-finished (dropped act t) doom) (tail r lt) in
         record {

@@ -31,7 +31,8 @@ use Rattle.admitted_laws.specs.Resting.{Rests, form-postings, rested}
 use Rattle.statements.specs.Words.{Recovered, shown}
 use Rattle.recovery_laws.specs.Shown.{shown-is}
 use Rattle.recovery_laws.specs.Versions.{tail-cong, trim, trim-tail, trim-mem, trim-chain, first-trim, chain-starts}
-use Rattle.recovery_laws.specs.ArraysKept.{keep-on, keep-off, keep-length, keep-again, blanks, chain-keep, clear-length, clear-other, clear-here, clear-none}
+use Rattle.recovery_laws.specs.ArraysKept.{keep-on, keep-off, keep-length, keep-again, blanks}
+use Rattle.recovery_laws.specs.ArraysKept.{chain-keep, clear-length, clear-other, clear-here, clear-none}
 
 -- with no active txid and none doomed all are finished
 all-finished : (u : ℕ) → finished (replicate activeLimit 0) 0 u ≡ true
@@ -57,8 +58,12 @@ module _ (S : Store) (L : ℕ → List ℕ) (z : Sized S) (M : Mends S L) where
 
   chains : Chains hs (S .next) N
   chains = record {
-    chain = λ r lt. rw (List·getD-map (trimHead f (S .xmin) (S .next)) (S .heads) r 0) (trim-chain f (S .xmin) (S .next) (getD (S .heads) r 0) (L r) (M .stands .chains .chain r (rw heads-long at lt)));
-    apart = λ r q x lr lq mr mq. M .stands .chains .apart r q x (rw heads-long at lr) (rw heads-long at lq) (trim-mem f (S .xmin) (L r) x mr) (trim-mem f (S .xmin) (L q) x mq);
+    chain =
+        λ r lt. rw (List·getD-map (trimHead f (S .xmin) (S .next)) (S .heads) r 0)
+        (trim-chain f (S .xmin) (S .next) (getD (S .heads) r 0) (L r) (M .stands .chains .chain r (rw heads-long at lt)));
+    apart =
+        λ r q x lr lq mr mq.
+        M .stands .chains .apart r q x (rw heads-long at lr) (rw heads-long at lq) (trim-mem f (S .xmin) (L r) x mr) (trim-mem f (S .xmin) (L q) x mq);
   }
 
   chained : Chained hs (S .next) seen N
@@ -88,7 +93,8 @@ module _ (S : Store) (L : ℕ → List ℕ) (z : Sized S) (M : Mends S L) where
       clash (rw (← xy) at m) (chain-once (S .next) (getD hs r 0) x l c))
       (λ k. k)
 
-  tail-of : (g : ℕ → Bool) → ((u : ℕ) → g u ≡ true) → (r : ℕ) → r < length hs → (m : List ℕ) → N r ≡ m → Tail (keep 0 seen (S .xmin)) (keep 0 seen (clear f hs (S .xmax))) g 0 m
+  tail-of : (g : ℕ → Bool) → ((u : ℕ) → g u ≡ true) → (r : ℕ) → r < length hs → (m : List ℕ) → N r ≡ m
+      → Tail (keep 0 seen (S .xmin)) (keep 0 seen (clear f hs (S .xmax))) g 0 m
   tail-of g all r lt [] e = tt
   tail-of g all r lt (x ∷ l) e =
       let t = trim-tail (S .xmin) (S .xmax) f (L r) (M .stands .versions r (rw heads-long at lt)) in
@@ -107,7 +113,9 @@ module _ (S : Store) (L : ℕ → List ℕ) (z : Sized S) (M : Mends S L) where
       )
 
   -- heads keep their values
-  head-kept : (r : ℕ) → r < length hs → (getD (keep 0 seen (S .key)) (getD hs r 0) 0 ≡ getD (S .key) (getD hs r 0) 0) × (getD (keep false seen (S .has)) (getD hs r 0) false ≡ getD (S .has) (getD hs r 0) false)
+  head-kept : (r : ℕ) → r < length hs
+      → (getD (keep 0 seen (S .key)) (getD hs r 0) 0 ≡ getD (S .key) (getD hs r 0) 0)
+      × (getD (keep false seen (S .has)) (getD hs r 0) false ≡ getD (S .has) (getD hs r 0) false)
   head-kept r lt = by (eqb (getD hs r 0) 0)
       (λ e. let none = M .slots .free 0 (M .slots .first) .empty in
       rw (eqb-true (getD hs r 0) 0 e) (keep-off 0 seen (S .key) 0 zero-off ∙ sym (M .slots .absent 0 none), keep-off false seen (S .has) 0 zero-off ∙ sym none))
@@ -172,7 +180,8 @@ module _ (S : Store) (L : ℕ → List ℕ) (z : Sized S) (M : Mends S L) where
   -- the postings found, taken back from their array
   found-back : postingsOf (recovered S) ≡ headPostings (S .key) (S .has) 0 hs
   unfolding recovered postingsOf
-  found-back = take-pad postingLimit 0 (headPostings (S .key) (S .has) 0 hs) (omega (arith, heads-length (S .key) (S .has) 0 hs, heads-long, z .heads, rows-posted))
+  found-back =
+      take-pad postingLimit 0 (headPostings (S .key) (S .has) 0 hs) (omega (arith, heads-length (S .key) (S .has) 0 hs, heads-long, z .heads, rows-posted))
 
   -- they are the heads' of the new store
   found-same : headPostings (keep 0 seen (S .key)) (keep false seen (S .has)) 0 hs ≡ headPostings (S .key) (S .has) 0 hs
@@ -198,8 +207,10 @@ module _ (S : Store) (L : ℕ → List ℕ) (z : Sized S) (M : Mends S L) where
   head-shown : (r : ℕ) → r < length hs → valueAt (keep 0 seen (S .key)) (keep false seen (S .has)) (getD hs r 0) ≡ shown S r
   head-shown r lt =
       let l = rw heads-long at lt in
-      let v : valueAt (keep 0 seen (S .key)) (keep false seen (S .has)) (getD hs r 0) ≡ valueAt (S .key) (S .has) (getD hs r 0) = rw (head-kept r lt .0, head-kept r lt .1) in
-      v ∙ ap (valueAt (S .key) (S .has)) (chain-starts (S .next) (getD hs r 0) (N r) (chains .chain r lt) ∙ sym (first-trim (S .xmin) (S .xmax) f (L r) (M .stands .versions r l)))
+      let v : valueAt (keep 0 seen (S .key)) (keep false seen (S .has)) (getD hs r 0) ≡ valueAt (S .key) (S .has) (getD hs r 0) =
+      rw (head-kept r lt .0, head-kept r lt .1) in
+      v ∙ ap (valueAt (S .key) (S .has))
+      (chain-starts (S .next) (getD hs r 0) (N r) (chains .chain r lt) ∙ sym (first-trim (S .xmin) (S .xmax) f (L r) (M .stands .versions r l)))
       ∙ sym (shown-is S L z M r l)
 
   recovers : Keyed S → Recovered S (recovered S)
@@ -239,7 +250,8 @@ module _ (S : Store) (L : ℕ → List ℕ) (z : Sized S) (M : Mends S L) where
 
   marks-stay : (p : ℕ) → on seen′ p ≡ on seen p
   unfolding recovered
-  marks-stay p = ap (λ (l : List ℕ). on (walk l (keep 0 seen (S .next)) .seen) p) (heads-stay hs) ∙ iff (on (walk hs (keep 0 seen (S .next)) .seen) p) (on seen p)
+  marks-stay p =
+      ap (λ (l : List ℕ). on (walk l (keep 0 seen (S .next)) .seen) p) (heads-stay hs) ∙ iff (on (walk hs (keep 0 seen (S .next)) .seen) p) (on seen p)
       (λ e. let a = marked .found p e in chained .marked (a .0) p (a .1) (a .2))
       (λ e. let a = chained .found p e in marked .marked (a .0) p (a .1) (a .2))
     where
@@ -249,7 +261,8 @@ module _ (S : Store) (L : ℕ → List ℕ) (z : Sized S) (M : Mends S L) where
   stays : recovered (recovered S) ≡ recovered S
   unfolding recovered
   stays =
-      let found : headPostings (keep 0 seen (S .key)) (keep false seen (S .has)) 0 hs′ ≡ headPostings (S .key) (S .has) 0 hs = ap (headPostings (keep 0 seen (S .key)) (keep false seen (S .has)) 0) (heads-stay hs) ∙ found-same in
+      let found : headPostings (keep 0 seen (S .key)) (keep false seen (S .has)) 0 hs′ ≡ headPostings (S .key) (S .has) 0 hs =
+      ap (headPostings (keep 0 seen (S .key)) (keep false seen (S .has)) 0) (heads-stay hs) ∙ found-same in
       let xmax : keep 0 seen′ (clear g hs′ (keep 0 seen (clear f hs (S .xmax)))) ≡ keep 0 seen (clear f hs (S .xmax))
       = ap (keep 0 seen′) (clear-none g all-finished hs′ (keep 0 seen (clear f hs (S .xmax)))) ∙ keep-again 0 seen seen′ (clear f hs (S .xmax)) marks-stay in
       λ i. record {

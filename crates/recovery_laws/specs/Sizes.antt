@@ -8,7 +8,8 @@ use Rattle.records.specs.Limits.{postingLimit, activeLimit}
 use Rattle.rules.specs.Lists.{pad}
 use Rattle.rules.specs.Types.{Store}
 use Rattle.rules.specs.Store.{postingsOf, activeTxids}
-use Rattle.rules.specs.Puts.{Put, kStripe, kPartition, kInsert, kRemove, kXmax, kHead, kFree, kDrop, kStamp, kEnter, kXmin, kNext, kKey, kLock, is, sets, raises, posts, enters, apply, applyAll}
+use Rattle.rules.specs.Puts.{Put, kStripe, kPartition, kInsert, kRemove, kXmax, kHead, kFree, kDrop, kStamp}
+use Rattle.rules.specs.Puts.{kEnter, kXmin, kNext, kKey, kLock, is, sets, raises, posts, enters, apply, applyAll}
 use Rattle.basic_laws.specs.LaidOut.{pad-length}
 use Rattle.statements.specs.Sized.{Sized}
 

@@ -98,21 +98,28 @@ module _ (S : Store) (L : ℕ → List ℕ) (z : Sized S) (R : Rests S L) (t : �
   -- so it can be aborted
   pub due-start : Due t (shown S) (shown S) (S .active) (S .doomed) (S .doomed) own S
   due-start =
-      let created : (r x : ℕ) → r < length (S .heads) → memb x (L r) ≡ true → finished (dropped (S .active) t) (S .doomed) (getD (S .xmin) x 0) ≡ f (getD (S .xmin) x 0)
+      let created : (r x : ℕ) → r < length (S .heads) → memb x (L r) ≡ true
+      → finished (dropped (S .active) t) (S .doomed) (getD (S .xmin) x 0) ≡ f (getD (S .xmin) x 0)
       = λ r x lt m. steady (getD (S .xmin) x 0) (R .created r x lt m) in
-      let ended : (r x : ℕ) → r < length (S .heads) → memb x (L r) ≡ true → finished (dropped (S .active) t) (S .doomed) (getD (S .xmax) x 0) ≡ f (getD (S .xmax) x 0)
+      let ended : (r x : ℕ) → r < length (S .heads) → memb x (L r) ≡ true
+      → finished (dropped (S .active) t) (S .doomed) (getD (S .xmax) x 0) ≡ f (getD (S .xmax) x 0)
       = λ r x lt m. steady (getD (S .xmax) x 0) (R .ended r x lt m) in
       record {
         L = L;
         live = live-start (S .doomed) (rests-sole S L R);
-        good = λ r lt. good-fin (S .xmin) (S .xmax) f (finished (dropped (S .active) t) (S .doomed)) (L r) (λ x m. created r x lt m) (λ x m. ended r x lt m) (R .mends .stands .versions r lt);
+        good =
+            λ r lt. good-fin (S .xmin) (S .xmax) f (finished (dropped (S .active) t) (S .doomed)) (L r) (λ x m. created r x lt m)
+            (λ x m. ended r x lt m) (R .mends .stands .versions r lt);
         sole = record {
           created = λ r x lt m n. R .created r x lt m (sym (created r x lt m) ∙ n);
           ended = λ r x lt m n. R .ended r x lt m (sym (ended r x lt m) ∙ n);
         };
         shows = λ r lt.
             let l : r < length (S .heads) = omega (arith, z .heads) in
-            ap (valueAt (S .key) (S .has)) (first-same (λ p. finished (dropped (S .active) t) (S .doomed) (getD (S .xmin) p 0)) (λ p. f (getD (S .xmin) p 0)) (L r) (λ x m. created r x l m)) ∙ sym (shown-is S L z (R .mends) r l);
+            ap (valueAt (S .key) (S .has))
+            (first-same (λ p. finished (dropped (S .active) t) (S .doomed) (getD (S .xmin) p 0)) (λ p. f (getD (S .xmin) p 0)) (L r)
+            (λ x m. created r x l m))
+            ∙ sym (shown-is S L z (R .mends) r l);
         idle = own-idle;
         mine = own-mine;
       }
@@ -126,10 +133,15 @@ module _ (S : Store) (L : ℕ → List ℕ) (R : Rests S L) (healthy : S .poison
   settled v k = by (h v) (λ e. e) (λ e. clash (rw (k e ∙ R .undoomed healthy) (zero-finished (S .active) (S .doomed))) e)
 
   pub tails : (r : ℕ) → r < length (S .heads) → Tail (S .xmin) (S .xmax) h 0 (L r)
-  tails r lt = good-rests (S .xmin) (S .xmax) h (L r) (λ y m. settled (getD (S .xmin) y 0) (R .created r y lt m)) (λ y m. settled (getD (S .xmax) y 0) (R .ended r y lt m)) (R .mends .stands .versions r lt)
+  tails r lt =
+      good-rests (S .xmin) (S .xmax) h (L r) (λ y m. settled (getD (S .xmin) y 0) (R .created r y lt m))
+      (λ y m. settled (getD (S .xmax) y 0) (R .ended r y lt m)) (R .mends .stands .versions r lt)
 
   nobody : (who : ℕ) → Sole (S .heads) (S .xmin) (S .xmax) h L who
-  nobody who = record { created = λ r y lt m n. clash (settled (getD (S .xmin) y 0) (R .created r y lt m)) n; ended = λ r y lt m n. clash (settled (getD (S .xmax) y 0) (R .ended r y lt m)) n }
+  nobody who = record {
+    created = λ r y lt m n. clash (settled (getD (S .xmin) y 0) (R .created r y lt m)) n;
+    ended = λ r y lt m n. clash (settled (getD (S .xmax) y 0) (R .ended r y lt m)) n;
+  }
 
   shows-first : Sized S → (r : ℕ) → r < rows → shown S r ≡ valueAt (S .key) (S .has) (firstSlot (L r))
   shows-first z r lt =
@@ -137,11 +149,13 @@ module _ (S : Store) (L : ℕ → List ℕ) (R : Rests S L) (healthy : S .poison
       shown-is S L z (R .mends) r l ∙ ap (valueAt (S .key) (S .has)) (first-tail (S .xmin) (S .xmax) h 0 (L r) (tails r l))
 
 -- a row of a resting store that isn't poisoned shows its head
-pub shows-heads : (S : Store) → Sized S → resting S ≡ true → S .poisoned ≡ false → (r : ℕ) → r < rows → shown S r ≡ valueAt (S .key) (S .has) (getD (S .heads) r 0)
+pub shows-heads : (S : Store) → Sized S → resting S ≡ true → S .poisoned ≡ false → (r : ℕ) → r < rows
+    → shown S r ≡ valueAt (S .key) (S .has) (getD (S .heads) r 0)
 shows-heads S z h healthy r lt =
     let R = rests S z h in
     shows-first S (R .0) (R .1) healthy z r lt
-    ∙ ap (valueAt (S .key) (S .has)) (sym (chain-starts (S .next) (getD (S .heads) r 0) (R .0 r) (R .1 .mends .stands .chains .chain r (omega (arith, z .heads)))))
+    ∙ ap (valueAt (S .key) (S .has))
+    (sym (chain-starts (S .next) (getD (S .heads) r 0) (R .0 r) (R .1 .mends .stands .chains .chain r (omega (arith, z .heads)))))
 
 -- a write whose base is not the head of its row
 abbrev conflicts : List ℕ → Write → Bool
@@ -157,7 +171,8 @@ module _ (S : Store) (L : ℕ → List ℕ) (z : Sized S) (R : Rests S L) (x : T
   g = finished (S .active) (S .doomed)
 
   -- each final write can be published
-  todo-one : (w : Write) → writeFit (S .xmin) (S .next) (walk (S .heads) (S .next) .seen) me w ≡ true → conflicts (S .heads) w ≡ false → Todo (S .heads) (S .xmin) (S .xmax) (S .next) g me L w
+  todo-one : (w : Write) → writeFit (S .xmin) (S .next) (walk (S .heads) (S .next) .seen) me w ≡ true → conflicts (S .heads) w ≡ false
+      → Todo (S .heads) (S .xmin) (S .xmax) (S .next) g me L w
   todo-one w h c =
       let p = write-parts (S .xmin) (S .next) (walk (S .heads) (S .next) .seen) me w h in
       let n = w .new .0 in
@@ -167,7 +182,8 @@ module _ (S : Store) (L : ℕ → List ℕ) (z : Sized S) (R : Rests S L) (x : T
         ready = record {
           row = row;
           pos = by (eqb n 0)
-              (λ e. absurd (omega (arith, ltb-true 0 (getD (S .xmin) n 0) (p .taken), ap (λ (q : ℕ). getD (S .xmin) q 0) (eqb-true n 0 e), R .mends .slots .first)))
+              (λ e. absurd
+              (omega (arith, ltb-true 0 (getD (S .xmin) n 0) (p .taken), ap (λ (q : ℕ). getD (S .xmin) q 0) (eqb-true n 0 e), R .mends .slots .first)))
               (λ e. omega (arith, eqb-false n 0 e));
           low = omega (arith, leb-true n slots (p .new), z .next);
           over = eqb-true (getD (S .next) n 0) (w .base .0) (p .over) ∙ sym head;
@@ -182,13 +198,15 @@ module _ (S : Store) (L : ℕ → List ℕ) (z : Sized S) (R : Rests S L) (x : T
       → Each (Todo (S .heads) (S .xmin) (S .xmax) (S .next) g me L) ws
   todo-all [] h c = tt
   todo-all (w ∷ ws) h c =
-      let a = and-true (writeFit (S .xmin) (S .next) (walk (S .heads) (S .next) .seen) me w) (all (writeFit (S .xmin) (S .next) (walk (S .heads) (S .next) .seen) me) ws) h in
+      let a = and-true (writeFit (S .xmin) (S .next) (walk (S .heads) (S .next) .seen) me w)
+      (all (writeFit (S .xmin) (S .next) (walk (S .heads) (S .next) .seen) me) ws) h in
       let o = or-false (conflicts (S .heads) w) (any (conflicts (S .heads)) ws) c in
       (todo-one w (a .0) (o .0), todo-all ws (a .1) (o .1))
 
   finals-todo : Each (Todo (S .heads) (S .xmin) (S .xmax) (S .next) g me L) (finals x)
   unfolding finals writeBaseConflict
-  finals-todo = todo-all (finals x) (finals-all (writeFit (S .xmin) (S .next) (walk (S .heads) (S .next) .seen) me) (writesOf x) (fit-parts S x fits .writes)) based
+  finals-todo =
+      todo-all (finals x) (finals-all (writeFit (S .xmin) (S .next) (walk (S .heads) (S .next) .seen) me) (writesOf x) (fit-parts S x fits .writes)) based
 
   finals-apart : distinct (finals x) ≡ true
   unfolding finals

@@ -29,7 +29,8 @@ in-array u [] n h = refl
 in-array u (x ∷ l) n h = go (in-array u l n) (eqb x 0) refl h
   where
     go : (((i : ℕ) → length (activeTxids l) ≤ i → getD l i 0 ≡ 0) → memb u l ≡ memb u (activeTxids l))
-        → (b : Bool) → eqb x 0 ≡ b → ((i : ℕ) → length (cond b [] (x ∷ activeTxids l)) ≤ i → getD (x ∷ l) i 0 ≡ 0) → memb u (x ∷ l) ≡ memb u (cond b [] (x ∷ activeTxids l))
+        → (b : Bool) → eqb x 0 ≡ b → ((i : ℕ) → length (cond b [] (x ∷ activeTxids l)) ≤ i → getD (x ∷ l) i 0 ≡ 0)
+        → memb u (x ∷ l) ≡ memb u (cond b [] (x ∷ activeTxids l))
     go ih true e h = none-in u (x ∷ l) n (λ i. h i (omega arith))
     go ih false e h = ap (λ (b : Bool). eqb u x || b) (ih (λ i le. h (suc i) (omega arith)))
 
@@ -112,7 +113,8 @@ module _ (act : List ℕ) (clock : ℕ) (A : ActiveForm act clock) (long : lengt
   -- what the new list holds
   zero-out : memb 0 (without t (activeTxids act)) ≡ false
   zero-out = by (memb 0 (without t (activeTxids act)))
-      (λ m. absurd (omega (arith, rising-from 1 (without t (activeTxids act)) 0 (rising-without 1 t (activeTxids act) (is-rising 1 (activeTxids act) (A .climb))) m)))
+      (λ m. absurd
+      (omega (arith, rising-from 1 (without t (activeTxids act)) 0 (rising-without 1 t (activeTxids act) (is-rising 1 (activeTxids act) (A .climb))) m)))
       (λ m. m)
 
   -- it is the old one without t

@@ -24,7 +24,9 @@ tail-cong xmin xmax xmin′ xmax′ f f′ v [] a b g t = tt
 tail-cong xmin xmax xmin′ xmax′ f f′ v (x ∷ l) a b g t = (
   rw (a x (mem-here x l)) (g x (mem-here x l) (t .0)),
   b x (mem-here x l) ∙ t .1,
-  rw (a x (mem-here x l)) (tail-cong xmin xmax xmin′ xmax′ f f′ (getD xmin x 0) l (λ y m. a y (mem-there y x l m)) (λ y m. b y (mem-there y x l m)) (λ y m. g y (mem-there y x l m)) (t .2)),
+  rw (a x (mem-here x l))
+      (tail-cong xmin xmax xmin′ xmax′ f f′ (getD xmin x 0) l (λ y m. a y (mem-there y x l m)) (λ y m. b y (mem-there y x l m))
+      (λ y m. g y (mem-there y x l m)) (t .2)),
 )
 
 -- so do a good chain's versions
@@ -99,14 +101,16 @@ first-in g (x ∷ l) =
     (λ e. rw e (⊎-elim (λ k. inl k) (λ k. inr (mem-there (firstOf g l) x l k)) r))
 
 -- a good chain whose txids are all finished rests
-pub good-rests : (xmin xmax : List ℕ) (f : ℕ → Bool) (l : List ℕ) → ((x : ℕ) → memb x l ≡ true → f (getD xmin x 0) ≡ true) → ((x : ℕ) → memb x l ≡ true → f (getD xmax x 0) ≡ true)
+pub good-rests : (xmin xmax : List ℕ) (f : ℕ → Bool) (l : List ℕ) → ((x : ℕ) → memb x l ≡ true → f (getD xmin x 0) ≡ true)
+    → ((x : ℕ) → memb x l ≡ true → f (getD xmax x 0) ≡ true)
     → Good xmin xmax f l → Tail xmin xmax f 0 l
 good-rests xmin xmax f [] a b (plain v o t) = tt
 good-rests xmin xmax f (x ∷ l) a b (plain v o t) = (t .0, t .1 ∙ ⊎-elim (λ e. e) (λ n. clash (rw (t .1) at (b x (mem-here x l))) n) o, t .2)
 good-rests xmin xmax f _ a b (ahead {x = x} {l = l} v n e o t) = clash (a x (mem-here x l)) n
 
 -- a good chain stays so where its txids stand as they stood
-pub good-fin : (xmin xmax : List ℕ) (f f′ : ℕ → Bool) (l : List ℕ) → ((x : ℕ) → memb x l ≡ true → f′ (getD xmin x 0) ≡ f (getD xmin x 0)) → ((x : ℕ) → memb x l ≡ true → f′ (getD xmax x 0) ≡ f (getD xmax x 0))
+pub good-fin : (xmin xmax : List ℕ) (f f′ : ℕ → Bool) (l : List ℕ) → ((x : ℕ) → memb x l ≡ true → f′ (getD xmin x 0) ≡ f (getD xmin x 0))
+    → ((x : ℕ) → memb x l ≡ true → f′ (getD xmax x 0) ≡ f (getD xmax x 0))
     → Good xmin xmax f l → Good xmin xmax f′ l
 good-fin xmin xmax f f′ [] a b (plain v o t) = plain 0 (inl refl) tt
 good-fin xmin xmax f f′ (x ∷ l) a b (plain v o t) =
@@ -116,7 +120,8 @@ good-fin xmin xmax f f′ _ a b (ahead {x = x} {l = l} v n e o t) =
     ahead {x = x} v (a x (mem-here x l) ∙ n) e o (tail-cong xmin xmax xmin xmax f f′ v l (λ y m. refl) (λ y m. refl) (λ y m k. a y (mem-there y x l m) ∙ k) t)
 
 -- the txids of finished versions, of which the first has a finished xmax, are finished
-pub tail-finished : (xmin xmax : List ℕ) (f : ℕ → Bool) (v : ℕ) (l : List ℕ) → f v ≡ true → Tail xmin xmax f v l → (y : ℕ) → memb y l ≡ true → (f (getD xmin y 0) ≡ true) × (f (getD xmax y 0) ≡ true)
+pub tail-finished : (xmin xmax : List ℕ) (f : ℕ → Bool) (v : ℕ) (l : List ℕ) → f v ≡ true → Tail xmin xmax f v l → (y : ℕ) → memb y l ≡ true
+    → (f (getD xmin y 0) ≡ true) × (f (getD xmax y 0) ≡ true)
 tail-finished xmin xmax f v [] d t y m = clash {b = false} m refl
 tail-finished xmin xmax f v (x ∷ l) d t y m = or-true (eqb y x) (memb y l) m
     (λ e. rw (eqb-true y x e) (t .0, rw (t .1) d))

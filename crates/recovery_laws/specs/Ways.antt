@@ -21,7 +21,10 @@ use Rattle.rules.specs.Changes.{changes, destinations, recycled, release, inser
 use Rattle.rules.specs.Commit.{End, poison, fails, count, finish, abortOrPoison}
 use Rattle.basic_laws.specs.Cases.{by}
 use Rattle.run_laws.specs.OnlyKinds.{only, only-both, only-take, only-if}
-use Rattle.run_laws.specs.Outcome.{Taken, Stay, faulted, durable, Abort, unprepared, panicked, busy, conflict, unhealthy, Passed, guardsTaken, afterInsert, afterRemove, afterPublish, afterRecycle, afterFinish, afterStamp, aborting, rollingBack, worse, panics, undoing, abortingLate, bad, Spoil, unremoved, unpublished, unrecycled, unfinished, Outcome, done, stays, aborts, uninserted, uncalled, spoils, unstamped}
+use Rattle.run_laws.specs.Outcome.{Taken, Stay, faulted, durable, Abort, unprepared, panicked, busy, conflict, unhealthy, Passed}
+use Rattle.run_laws.specs.Outcome.{guardsTaken, afterInsert, afterRemove, afterPublish, afterRecycle, afterFinish, afterStamp}
+use Rattle.run_laws.specs.Outcome.{aborting, rollingBack, worse, panics, undoing, abortingLate, bad, Spoil, unremoved, unpublished}
+use Rattle.run_laws.specs.Outcome.{unrecycled, unfinished, Outcome, done, stays, aborts, uninserted, uncalled, spoils, unstamped}
 use Rattle.statements.specs.Words.{stands, Admitted, shown, withNew}
 use Rattle.run_laws.specs.Kinds.{taken-kinds, release-kinds, insertions-kind, removals-kind, stamping-kind, poison-kind, rollback-kinds}
 use Rattle.statements.specs.Sized.{Sized}
@@ -120,7 +123,8 @@ module _ (S : Store) (x : Tx) (logged : Bool) (plan : Schedule) where
     aborted b X D = by (fails S x logged plan 23)
         (λ e. rw e (stay-home (poison b) (poison-kind calm refl b) X (S .active, S .doomed, (D .L, D .live))))
         (λ e. rw e (to-then Old (Owing []) Home (map putFree own) (putDrop t ∷ []) X
-        (to-map (Same (S .doomed)) Old (Owing []) (Owing []) (map putFree own) X (same-old (S .doomed)) (λ Y k. k) (frees t pos old old (S .active) (S .doomed) (S .doomed) own X D))
+        (to-map (Same (S .doomed)) Old (Owing []) (Owing []) (map putFree own) X (same-old (S .doomed)) (λ Y k. k)
+        (frees t pos old old (S .active) (S .doomed) (S .doomed) own X D))
         (λ Y E. let d : Home (apply (putDrop t) Y) = (dropped (S .active) t, S .doomed, due-dropped t old old (S .active) (S .doomed) (S .doomed) Y E) in
         (owing-old [] Y E, (home-old (apply (putDrop t) Y) d, d)))))
 
@@ -144,7 +148,8 @@ module _ (S : Store) (x : Tx) (logged : Bool) (plan : Schedule) where
       writing : To (Same t) Writing (afterRemove S x logged plan) S
       writing =
           calmly-to (Same t) Writing (on-calm t old (S .active) (S .doomed) (S .key) (S .has) (recycled S x) (finals x) old) (λ X O. (O .L, O .live))
-          (afterRemove S x logged plan) (remove-kinds calm refl refl S x logged plan refl refl) S (on-start S L z R x (ok .active) (ok .fits) (p .healthy) based)
+          (afterRemove S x logged plan) (remove-kinds calm refl refl S x logged plan refl refl) S
+          (on-start S L z R x (ok .active) (ok .fits) (p .healthy) based)
 
       publishing : (X : Store) → Writing X → To (Same t) Written (publication x) X
       unfolding publication
@@ -179,7 +184,8 @@ module _ (S : Store) (x : Tx) (logged : Bool) (plan : Schedule) where
       -- 17
       stands-17 : (k : ℕ) → To Either New (afterFinish S x logged plan ++ (take k (stamping S x) ++ putPoison ∷ release S x)) S
       stands-17 k = to-then Either New New (afterFinish S x logged plan) (take k (stamping S x) ++ putPoison ∷ release S x) S finishing
-          (afterwards (take k (stamping S x) ++ putPoison ∷ release S x) (only-both calm (take k (stamping S x)) (putPoison ∷ release S x) (only-take calm k (stamping S x) (stamping-kind calm S x refl)) letting-go))
+          (afterwards (take k (stamping S x) ++ putPoison ∷ release S x)
+          (only-both calm (take k (stamping S x)) (putPoison ∷ release S x) (only-take calm k (stamping S x) (stamping-kind calm S x refl)) letting-go))
 
       -- doomed, and dropped or not: the rows show what they showed
       abbrev Drops : List Put → Type 0
@@ -204,12 +210,14 @@ module _ (S : Store) (x : Tx) (logged : Bool) (plan : Schedule) where
       -- what comes before the doom, and the doom
       spoiling : (I : Store → Type 0) (made some ps : List Put) → Drops ps → To (Same t) I made S → ((X : Store) → I X → To (Same t) (Same t) some X)
           → To Old Home (made ++ (some ++ putDoom t ∷ ps ++ release S x)) S
-      spoiling I made some ps o h k = to-then Old I Home made (some ++ putDoom t ∷ ps ++ release S x) S (to-map (Same t) Old I I made S (same-old t) (λ X e. e) h)
+      spoiling I made some ps o h k =
+          to-then Old I Home made (some ++ putDoom t ∷ ps ++ release S x) S (to-map (Same t) Old I I made S (same-old t) (λ X e. e) h)
           (λ X e. rw (append-assoc some (putDoom t ∷ ps) (release S x)) (to-then Old (Same t) Home some (putDoom t ∷ ps ++ release S x) X
           (to-map (Same t) Old (Same t) (Same t) some X (same-old t) (λ Y m. m) (k X e)) (dooms ps o)))
 
       -- 13 to 16
-      spoiled : {n : ℕ} {made some ps : List Put} {poisoning : Put} {kind : Fate → Refusal} {y : Tx} {dropped : Bool} → Spoil S x logged plan n made some poisoning ps kind y dropped
+      spoiled : {n : ℕ} {made some ps : List Put} {poisoning : Put} {kind : Fate → Refusal} {y : Tx} {dropped : Bool}
+          → Spoil S x logged plan n made some poisoning ps kind y dropped
           → (stands (kind Undone) ≡ false) × To Old Home (made ++ (some ++ poisoning ∷ ps ++ release S x)) S
       spoiled (unremoved k) =
           let n = count S x logged plan 17 in
@@ -217,20 +225,29 @@ module _ (S : Store) (x : Tx) (logged : Bool) (plan : Schedule) where
             refl,
             stay-home (afterInsert S x logged plan ++ (some ++ release S x))
                 (only-both calm (afterInsert S x logged plan) (some ++ release S x) (insert-kinds calm refl refl S x logged plan refl)
-                (only-both calm some (release S x) (only-both calm (take n (removals S x)) (putPoison ∷ []) (only-take calm n (removals S x) (removals-kind calm S x refl)) refl) letting-go))
+                (only-both calm some (release S x)
+                (only-both calm (take n (removals S x)) (putPoison ∷ []) (only-take calm n (removals S x) (removals-kind calm S x refl)) refl) letting-go))
                 S home,
           )
       spoiled (unpublished k) =
-          let n = count S x logged plan 18 in
-          (refl, spoiling Writing (afterRemove S x logged plan) (take n (publication x)) (finish S x logged plan) drops writing (λ X O. to-cut (Same t) Written (publication x) X n (publishing X O)))
+          let n = count S x logged plan 18 in (
+            refl,
+            spoiling Writing (afterRemove S x logged plan) (take n (publication x)) (finish S x logged plan) drops writing
+                (λ X O. to-cut (Same t) Written (publication x) X n (publishing X O)),
+          )
       spoiled (unrecycled k) =
-          let n = count S x logged plan 19 in
-          (refl, spoiling Written (afterPublish S x logged plan) (take n (recycling S x)) (finish S x logged plan) drops written (λ X O. to-cut (Same t) Ripe (recycling S x) X n (recycles X O)))
+          let n = count S x logged plan 19 in (
+            refl,
+            spoiling Written (afterPublish S x logged plan) (take n (recycling S x)) (finish S x logged plan) drops written
+                (λ X O. to-cut (Same t) Ripe (recycling S x) X n (recycles X O)),
+          )
       spoiled (unfinished k) = (refl, spoiling Ripe (afterRecycle S x logged plan) [] [] (inl refl) ripe (λ X D. ((D .L, D .live), (D .L, D .live))))
 
     -- 4 and 8: guards taken and given back
     stayed : {taken back : List Put} → Taken S x logged plan taken back → To Old Home (taken ++ back) S
-    stayed {taken} {back} h = let c = guards-kinds calm refl refl S x logged plan h in stay-home (taken ++ back) (only-both calm taken back (c .0) (c .1)) S home
+    stayed {taken} {back} h =
+        let c = guards-kinds calm refl refl S x logged plan h in
+        stay-home (taken ++ back) (only-both calm taken back (c .0) (c .1)) S home
 
     stay-number : {kind : Fate → Refusal} → Stay S x logged plan kind → stands (kind Open) ≡ false
     stay-number (faulted k) = refl
@@ -243,7 +260,8 @@ module _ (S : Store) (x : Tx) (logged : Bool) (plan : Schedule) where
         to-then Old (Owing own) Home taken (back ++ aborting S x logged plan .puts) S (still-owing taken (c .0) S owing)
         (λ X D. to-then Old (Owing own) Home back (aborting S x logged plan .puts) X (still-owing back (c .1) X D) (aborted (S .poisoned)))
 
-    abort-number : {kind failed : Fate → Refusal} {found preparing : Bool} → Abort S x logged plan kind failed found preparing → (b : Bool) (e : Fate) → stands (cond b failed kind e) ≡ false
+    abort-number : {kind failed : Fate → Refusal} {found preparing : Bool} → Abort S x logged plan kind failed found preparing → (b : Bool) (e : Fate)
+        → stands (cond b failed kind e) ≡ false
     abort-number (unprepared k) true e = refl
     abort-number (unprepared k) false e = refl
     abort-number (panicked k) true e = refl
@@ -256,7 +274,8 @@ module _ (S : Store) (x : Tx) (logged : Bool) (plan : Schedule) where
     abort-number (unhealthy k) false e = refl
 
     -- 10
-    unwound : To Old Home (guardsTaken S x logged plan ++ (take (count S x logged plan 15) (insertions S x) ++ (rollingBack S x logged plan .puts ++ release S x))) S
+    unwound : To Old Home
+        (guardsTaken S x logged plan ++ (take (count S x logged plan 15) (insertions S x) ++ (rollingBack S x logged plan .puts ++ release S x))) S
     unwound =
         let n = count S x logged plan 15 in
         let some = take n (insertions S x) in
@@ -268,15 +287,20 @@ module _ (S : Store) (x : Tx) (logged : Bool) (plan : Schedule) where
         S home
 
     -- 11 and 12
-    called-off : To Old Home (afterInsert S x logged plan ++ (cond (worse S x logged plan) (putPoison ∷ []) [] ++ (undoing S x logged plan .puts ++ (abortingLate S x logged plan .puts ++ release S x)))) S
+    called-off : To Old Home (afterInsert S x logged plan
+        ++ (cond (worse S x logged plan) (putPoison ∷ []) [] ++ (undoing S x logged plan .puts ++ (abortingLate S x logged plan .puts ++ release S x)))) S
     called-off =
         let worsens = cond (worse S x logged plan) (putPoison ∷ []) [] in
         let back = undoing S x logged plan .puts in
         let late = abortingLate S x logged plan .puts in
-        to-then Old (Owing own) Home (afterInsert S x logged plan) (worsens ++ (back ++ (late ++ release S x))) S (still-owing (afterInsert S x logged plan) (insert-kinds calm refl refl S x logged plan refl) S owing)
-        (λ X D. to-then Old (Owing own) Home worsens (back ++ (late ++ release S x)) X (still-owing worsens (only-if calm (worse S x logged plan) (putPoison ∷ []) [] refl refl) X D)
-        (λ Y E. to-then Old (Owing own) Home back (late ++ release S x) Y (still-owing back (rollback-kinds calm S x logged plan refl refl (worse S x logged plan) (destinations (changes S x))) Y E)
-        (λ Z G. to-then Old Home Home late (release S x) Z (aborted (worse S x logged plan || undoing S x logged plan .failed) Z G) (stay-home (release S x) letting-go))))
+        to-then Old (Owing own) Home (afterInsert S x logged plan) (worsens ++ (back ++ (late ++ release S x))) S
+        (still-owing (afterInsert S x logged plan) (insert-kinds calm refl refl S x logged plan refl) S owing)
+        (λ X D. to-then Old (Owing own) Home worsens (back ++ (late ++ release S x)) X
+        (still-owing worsens (only-if calm (worse S x logged plan) (putPoison ∷ []) [] refl refl) X D)
+        (λ Y E. to-then Old (Owing own) Home back (late ++ release S x) Y
+        (still-owing back (rollback-kinds calm S x logged plan refl refl (worse S x logged plan) (destinations (changes S x))) Y E)
+        (λ Z G. to-then Old Home Home late (release S x) Z (aborted (worse S x logged plan || undoing S x logged plan .failed) Z G)
+        (stay-home (release S x) letting-go))))
 
     call-number : (p b : Bool) (e : Fate) → stands (cond p CallbackPanicked (cond b CleanupFailed CallbackFailed) e) ≡ false
     call-number true b e = refl
@@ -284,12 +308,17 @@ module _ (S : Store) (x : Tx) (logged : Bool) (plan : Schedule) where
     call-number false false e = refl
 
     -- every ending
-    pub told : {n : ℕ} {ps : List Put} {d : End} → Outcome S x logged plan n ps d → ((stands (d .refusal) ≡ false) × To Old Home ps S) ⊎ ((stands (d .refusal) ≡ true) × To Either New ps S)
+    pub told : {n : ℕ} {ps : List Put} {d : End} → Outcome S x logged plan n ps d
+        → ((stands (d .refusal) ≡ false) × To Old Home ps S) ⊎ ((stands (d .refusal) ≡ true) × To Either New ps S)
     told (done p) = inr (refl, stands-0 p)
     told (stays l h k) = inl (stay-number k, stayed h)
     told (aborts l h k) = inl (abort-number k (aborting S x logged plan .failed) (fate (aborting S x logged plan .failed) true), gave-up h)
     told (uninserted p k) = inl (refl, unwound)
-    told (uncalled p l k) = inl (call-number (panics S x logged plan) (bad S x logged plan) (fate (worse S x logged plan || bad S x logged plan) (not (abortingLate S x logged plan .failed))), called-off)
+    told (uncalled p l k) = inl (
+      call-number (panics S x logged plan) (bad S x logged plan)
+          (fate (worse S x logged plan || bad S x logged plan) (not (abortingLate S x logged plan .failed))),
+      called-off,
+    )
     told (spoils p k) = inl (spoiled p k)
     told (unstamped p k) = inr (refl, stands-17 p (count S x logged plan 22))
 

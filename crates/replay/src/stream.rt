@@ -1,10 +1,10 @@
 // A script read from a file, replayed as it comes, and its answers written to standard output.
 
+use libc::STDOUT_FILENO;
 use replay_core::feed::Replay;
 use replay_core::feed::feed;
 use replay_core::feed::finish;
 use replay_core::feed::start;
-use libc::STDOUT_FILENO;
 
 // Room for answers; a part of a script that needs more is answered in several writes.
 const ROOM: usize = 16384;

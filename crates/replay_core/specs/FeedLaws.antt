@@ -17,7 +17,8 @@ use Rattle.replay_core.specs.declared.turn.Turned.{Turned}
 use Rattle.replay_core.specs.declared.feed.Fed.{Fed}
 use Rattle.replay_core.specs.Turn.{placeIn, atFirst, single, turned, joined, turn-alone}
 use Rattle.replay_core.specs.Put.{Puts, alike-on}
-use Rattle.replay_core.specs.Feed.{Reading, heldRoom, nextLine, lineEnd, withByte, fedByte, fed, ended, endedIn, answerRoom, reading, Counted, Feeds, Finishes}
+use Rattle.replay_core.specs.Feed.{Reading, heldRoom, nextLine, lineEnd, withByte, fedByte, fed}
+use Rattle.replay_core.specs.Feed.{ended, endedIn, answerRoom, reading, Counted, Feeds, Finishes}
 
 -- two parts are one
 pub fed-append : (a b : Bytes) (s : Reading)
@@ -45,7 +46,8 @@ module _ (d : Desk) (w : Bytes) (n : ℕ) {l : Line} {p m : ℕ} {x : Tx} (t : T
       ∙ ap (λ q. turn q d) e
 
   end-state : {none : Bytes} → none ≡ []
-      → record { desk = record { store = t .store; txs = set (d .txs) p (t .tx); plan = t .plan }; held = none; lines = m } ≡ lineEnd (record { desk = d; held = w; lines = n }) .state
+      → record { desk = record { store = t .store; txs = set (d .txs) p (t .tx); plan = t .plan }; held = none; lines = m }
+      ≡ lineEnd (record { desk = d; held = w; lines = n }) .state
   unfolding lineEnd
   end-state z = λ i. record { desk = the-turn i .desk; held = z i; lines = next i }
 
@@ -67,12 +69,21 @@ goes-none s part out = record { state = refl; answers = refl; rest = refl; room 
 
 -- one byte more, with room for its answer
 module _ (s : Reading) (part : Bytes) (i : ℕ) (h : i < length part) where
-  one-more : fed (take (i + 1) part) s ≡ record { state = fedByte (getD part i 0) (fed (take i part) s .state) .state; answers = fed (take i part) s .answers ++ fedByte (getD part i 0) (fed (take i part) s .state) .answers }
+  one-more : fed (take (i + 1) part) s ≡ record {
+    state = fedByte (getD part i 0) (fed (take i part) s .state) .state;
+    answers = fed (take i part) s .answers ++ fedByte (getD part i 0) (fed (take i part) s .state) .answers;
+  }
   unfolding fed
   one-more =
-      rw (add-one, take-suc part i 0 h, fed-append (take i part) (getD part i 0 ∷ []) s, append-nil (fedByte (getD part i 0) (fed (take i part) s .state) .answers))
+      rw (
+        add-one,
+        take-suc part i 0 h,
+        fed-append (take i part) (getD part i 0 ∷ []) s,
+        append-nil (fedByte (getD part i 0) (fed (take i part) s .state) .answers),
+      )
 
-  module _ (out : Bytes) {after : Bytes} {n : ℕ} {now : Reading} (g : Goes s part out after i n now) (long : length after ≡ length out) (room : n + answerRoom ≤ length after) where
+  module _ (out : Bytes) {after : Bytes} {n : ℕ} {now : Reading} (g : Goes s part out after i n now) (long : length after ≡ length out)
+      (room : n + answerRoom ≤ length after) where
     more-room : (j : ℕ) → j < i + 1 → length (fed (take j part) s .answers) + answerRoom ≤ length out
     more-room j k =
         by (eqb j i)
@@ -80,7 +91,8 @@ module _ (s : Reading) (part : Bytes) (i : ℕ) (h : i < length part) where
         (λ t. g .room j (omega (arith, eqb-false j i t)))
 
     -- a line ends
-    goes-line : {last : Bytes} {r : ℕ} {new : Reading} → getD part i 0 ≡ 10 → new ≡ lineEnd now .state → Puts after n (lineEnd now .answers) last r → Goes s part out last (i + 1) r new
+    goes-line : {last : Bytes} {r : ℕ} {new : Reading} → getD part i 0 ≡ 10 → new ≡ lineEnd now .state → Puts after n (lineEnd now .answers) last r
+        → Goes s part out last (i + 1) r new
     unfolding fedByte
     goes-line b st put =
         let q = one-more in
@@ -122,7 +134,8 @@ counted {n} {out} h = record { there = h; many = sym (length-take-le n out h) }
 
 -- where the loop ends
 pub feeds : {s : Reading} {part out after : Bytes} (f : Fed) → f .taken ≤ length part → f .count ≤ length after → length after ≡ length out
-    → Goes s part out after (f .taken) (f .count) (reading (f .replay)) → (f .count + answerRoom ≤ length after → f .taken ≡ length part) → Feeds s part out after f
+    → Goes s part out after (f .taken) (f .count) (reading (f .replay)) → (f .count + answerRoom ≤ length after → f .taken ≡ length part)
+    → Feeds s part out after f
 feeds f w h long g all =
     record { within = w; fits = counted h; state = g .state; answers = g .answers; rest = g .rest; room = λ i k. rw long (g .room i k); all = all }
 
@@ -153,7 +166,8 @@ module _ (s : Reading) (out : Bytes) where
   unfolding endedIn
   finish-short h = record { fits = counted (omega arith); answers = rw (lt-leb _ _ h); rest = refl }
 
-  pub finish-line : (after : Bytes) (n : ℕ) → (length (s .held) ≡ 0 → ⊥) → answerRoom ≤ length out → Puts out 0 (lineEnd s .answers) after n → Finishes s out after n
+  pub finish-line : (after : Bytes) (n : ℕ) → (length (s .held) ≡ 0 → ⊥) → answerRoom ≤ length out → Puts out 0 (lineEnd s .answers) after n
+      → Finishes s out after n
   unfolding endedIn
   finish-line after n some room put =
       record {

@@ -66,7 +66,8 @@ module _ (d : Desk) (w : Bytes) (n : ℕ) (few : n + 1 < 2 ^ 64) where
 
 -- a byte is fed
 module _ (b : ℕ) (bs : Bytes) (s : Reading) where
-  fed-feed : eqb b 10 ≡ true → fed (b ∷ bs) s ≡ record { state = fed bs (lineEnd s .state) .state; answers = lineEnd s .answers ++ fed bs (lineEnd s .state) .answers }
+  fed-feed : eqb b 10 ≡ true
+      → fed (b ∷ bs) s ≡ record { state = fed bs (lineEnd s .state) .state; answers = lineEnd s .answers ++ fed bs (lineEnd s .state) .answers }
   unfolding fed fedByte
   fed-feed t = rw t
 

@@ -18,7 +18,8 @@ unfolding answersIn
 into-short s out h = record { inside = omega arith; answers = rw (lt-leb _ _ h); rest = refl }
 
 -- fed at once into a buffer with the room, then ended behind the answers
-module _ (s out mid : Bytes) {a : Reading} {f : Fed} (few : length mid < 2 ^ 63) (enough : roomFor s ≤ length mid) (new : a ≡ first) (g : Feeds a s out mid f) where
+module _ (s out mid : Bytes) {a : Reading} {f : Fed} (few : length mid < 2 ^ 63) (enough : roomFor s ≤ length mid) (new : a ≡ first)
+    (g : Feeds a s out mid f) where
   left-over : f .count + answerRoom ≤ length mid
   left-over =
       let t = take (f .taken) s in
@@ -43,8 +44,16 @@ module _ (s out mid : Bytes) {a : Reading} {f : Fed} (few : length mid < 2 ^ 63)
 
     laid : length (take (f .count) mid ++ (end ++ post)) ≡ length mid
     laid =
-        omega
-        (arith, far, front, left-over, length-append (take (f .count) mid) (end ++ post), length-append end post, length-drop (length mid - f .count) (drop (f .count) mid), length-drop (f .count) mid)
+        omega (
+          arith,
+          far,
+          front,
+          left-over,
+          length-append (take (f .count) mid) (end ++ post),
+          length-append end post,
+          length-drop (length mid - f .count) (drop (f .count) mid),
+          length-drop (f .count) mid,
+        )
 
     text : take (f .count) mid ++ take k end ≡ replayText s
     unfolding endedIn
@@ -63,5 +72,6 @@ module _ (s out mid : Bytes) {a : Reading} {f : Fed} (few : length mid < 2 ^ 63)
     pub into-room : Replayed s out (take (f .count) mid ++ (end ++ post)) (f .count + k)
     unfolding answersIn
     into-room =
-        let both : take (f .count + k) (take (f .count) mid ++ (end ++ post)) ≡ take (f .count) mid ++ take k end = (rw front at (take-append-add (take (f .count) mid) (end ++ post) k)) ∙ rw (take-append-le k end post (z .fits .there)) in
+        let both : take (f .count + k) (take (f .count) mid ++ (end ++ post)) ≡ take (f .count) mid ++ take k end =
+        (rw front at (take-append-add (take (f .count) mid) (end ++ post) k)) ∙ rw (take-append-le k end post (z .fits .there)) in
         record { inside = omega (arith, laid, far, left-over, z .fits .there); answers = both ∙ text ∙ rw (laid, le-leb _ _ enough); rest = as-it-was }

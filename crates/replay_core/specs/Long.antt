@@ -51,15 +51,27 @@ text-short : (l : Line) → Proper l → length (textOf l) ≤ longest
 text-short (lineB i) p = omega (arith, place-few i p)
 text-short (lineR i r) p = omega (arith, length-append (numberText i) (9 ∷ numberText r), place-few i (p .0), number-few r (p .1))
 text-short (lineW i r v) p =
-    omega
-    (arith, length-append (numberText i) (9 ∷ numberText r ++ 9 ∷ valueText v), length-append (numberText r) (9 ∷ valueText v), place-few i (p .0), number-few r (p .1), value-few v (p .2))
+    omega (
+      arith,
+      length-append (numberText i) (9 ∷ numberText r ++ 9 ∷ valueText v),
+      length-append (numberText r) (9 ∷ valueText v),
+      place-few i (p .0),
+      number-few r (p .1),
+      value-few v (p .2),
+    )
 text-short (lineL i k) p = omega (arith, length-append (numberText i) (9 ∷ numberText k), place-few i (p .0), number-few k (p .1))
 text-short (lineK i r) p = omega (arith, length-append (numberText i) (9 ∷ numberText r), place-few i (p .0), number-few r (p .1))
 text-short (lineA i) p = omega (arith, place-few i p)
 text-short (lineC i m Uncut) p = omega (arith, length-append (numberText i) (9 ∷ modeText m), place-few i (p .0), mode-one m)
 text-short (lineC i m (After n)) p =
-    omega
-    (arith, length-append (numberText i) (9 ∷ modeText m ++ 9 ∷ numberText n), length-append (modeText m) (9 ∷ numberText n), place-few i (p .0), mode-one m, number-few n (p .1))
+    omega (
+      arith,
+      length-append (numberText i) (9 ∷ modeText m ++ 9 ∷ numberText n),
+      length-append (modeText m) (9 ∷ numberText n),
+      place-few i (p .0),
+      mode-one m,
+      number-few n (p .1),
+    )
 text-short (lineF n b k) p = omega (arith, length-append (numberText n) (9 ∷ b ∷ 9 ∷ numberText k), number-few n (p .0), number-few k (p .3))
 text-short lineV p = omega arith
 text-short lineBad p = absurd p

@@ -12,7 +12,8 @@ use Rattle.basic_laws.specs.Cases.{by}
 use Rattle.rules.specs.Numbers.{numberOf, isDone}
 use Rattle.rules.specs.Calls.{begin}
 use Rattle.rules.specs.Recovery.{recover}
-use Rattle.rules.specs.Replay.{Line, lineB, lineR, lineW, lineL, lineK, lineA, lineC, lineF, lineV, lineBad, Third, num, Desk, Turn, says, txAt, withFault, turn}
+use Rattle.rules.specs.Replay.{Line, lineB, lineR, lineW, lineL, lineK, lineA, lineC, lineF, lineV}
+use Rattle.rules.specs.Replay.{lineBad, Third, num, Desk, Turn, says, txAt, withFault, turn}
 use Rattle.rules.specs.Script.{Bytes, split, lineOf}
 use Rattle.script.specs.Print.{thirdOf}
 use Rattle.script.specs.Text.{PlaceBelow}
@@ -79,13 +80,16 @@ turn-alone (lineL i k) d = refl
 turn-alone (lineK i r) d = refl
 turn-alone (lineA i) d = refl
 turn-alone (lineC i m c) d = refl
-turn-alone (lineF n b k) d = λ j. record { desk = record { store = d .store; txs = same-desk d 0 j .txs; plan = withFault (record { step = n; letter = b; k = k }) (d .plan) }; out = says 0 (num 0) }
+turn-alone (lineF n b k) d = λ j. record {
+  desk = record { store = d .store; txs = same-desk d 0 j .txs; plan = withFault (record { step = n; letter = b; k = k }) (d .plan) };
+  out = says 0 (num 0);
+}
 turn-alone lineV d =
     let a = recover (d .store) in
     λ j. record { desk = record { store = a .store; txs = same-desk d 0 j .txs; plan = d .plan }; out = says (numberOf (a .refusal)) (num 0) }
 turn-alone lineBad d = λ j. record { desk = same-desk d 0 j; out = says 2 (num 0) }
 
--- a line that is read names one of the 16 places
+-- a line that is read names one of the places
 below : (l : Line) → PlaceBelow l → placeIn l < placeLimit
 below (lineB i) h = h
 below (lineR i r) h = h

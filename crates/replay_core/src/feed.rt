@@ -8,11 +8,11 @@ use super::held::line_in;
 use super::held::with_byte;
 use super::turn::place_of;
 use super::turn::turn;
-use script::Line;
-use script::print::Text;
 use records::Schedule;
 use records::Store;
 use records::Tx;
+use script::Line;
+use script::print::Text;
 
 // A replay under way: the store, the transactions of the places, the pending faults, the line under way, how many lines were answered.
 pub struct Replay {

@@ -7,11 +7,11 @@ ghost use mathlib.Core.Path.{_≡_};
 ghost use Rattle.rules.specs.Replay.{turn};
 ghost use Rattle.script.specs.LineMeaning.{meaning};
 ghost use Rattle.replay_core.specs.Turn.{placeIn, atFirst, single, turned};
-use script::Line;
-use script::print::Third;
 use records::Schedule;
 use records::Store;
 use records::Tx;
+use script::Line;
+use script::print::Third;
 
 // What a line leaves, and what it answers: the number, and the third field.
 pub struct Turned {

@@ -31,7 +31,9 @@ same-test clock before (t ∷ l) = at (eqb t 0) refl (same-test clock t l)
     at : (z : Bool) → eqb t 0 ≡ z → three clock t (beforeZero l) l ≡ activeFrom clock t l
         → three clock before (cond z [] (t ∷ beforeZero l)) (t ∷ l) ≡ cond z (allZero l) (ltb before t && (ltb t clock && activeFrom clock t l))
     at true e h = rw e (and-true (allZero l))
-    at false e h = one (ltb before t) (ltb t clock) (rising (suc t) (beforeZero l)) (all (λ u. ltb u clock) (beforeZero l)) (allZero (drop (length (beforeZero l)) l)) (activeFrom clock t l) h
+    at false e h =
+        one (ltb before t) (ltb t clock) (rising (suc t) (beforeZero l)) (all (λ u. ltb u clock) (beforeZero l))
+        (allZero (drop (length (beforeZero l)) l)) (activeFrom clock t l) h
 
 -- the form in one pass
 pub active-from : (act : List ℕ) (clock : ℕ) → activeInForm act clock ≡ activeFrom clock 0 act
@@ -58,7 +60,8 @@ module _ (clock before n : ℕ) (l : List ℕ) (i : ℕ) (w : Bool) where
   active-high e h q k m = rw (array-cons n 0 l i h, ne-eqb (getD l i 0) 0 q, lt-ltb before (getD l i 0) k, le-ltb (getD l i 0) clock m) at e
 
   -- it does and is: the rest decides
-  pub active-pass : activeLeft clock before n l i ≡ w → i < n → (getD l i 0 ≡ 0 → ⊥) → before < getD l i 0 → getD l i 0 < clock → activeLeft clock (getD l i 0) n l (i + 1) ≡ w
+  pub active-pass : activeLeft clock before n l i ≡ w → i < n → (getD l i 0 ≡ 0 → ⊥) → before < getD l i 0 → getD l i 0 < clock
+      → activeLeft clock (getD l i 0) n l (i + 1) ≡ w
   unfolding activeLeft
   active-pass e h q k m = rw (array-cons n 0 l i h, ne-eqb (getD l i 0) 0 q, lt-ltb before (getD l i 0) k, lt-ltb (getD l i 0) clock m) at e
 

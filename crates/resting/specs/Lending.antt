@@ -11,7 +11,8 @@ use Rattle.statements.specs.Sized.{Sized}
 use Rattle.fields.specs.Lent.{array, array-same, atRows, atPlaces, flagsAtPlaces}
 
 -- stamps and durably bound are no part of any admission test
-abbrev pub lentStore : List ℕ → List ℕ → List ℕ → List ℕ → List ℕ → List Bool → List Bool → List ℕ → List ℕ → ℕ → List ℕ → List ℕ → List ℕ → ℕ → Bool → ℕ → Store
+abbrev pub lentStore : List ℕ → List ℕ → List ℕ → List ℕ → List ℕ → List Bool → List Bool → List ℕ → List ℕ → ℕ → List ℕ → List ℕ → List ℕ
+    → ℕ → Bool → ℕ → Store
 lentStore heads xmin xmax next key has locked owner postings count stripeGuards partitionGuards active clock poisoned doomed = record {
   heads = atRows heads;
   xmin = atPlaces xmin;
@@ -79,9 +80,24 @@ module _ (S : Store) (z : Sized S) where
 
   lent-is : lent ≡ judged
   lent-is =
-      rw (array-same rows 0 (S .heads) (z .heads), array-same places 0 (S .xmin) (z .xmin), array-same places 0 (S .xmax) (z .xmax), array-same places 0 (S .next) (z .next), array-same places 0 (S .key) (z .key), array-same places false (S .has) (z .has), array-same places false (S .locked) (z .locked), array-same places 0 (S .owner) (z .owner), array-same postingLimit 0 (S .postings) (z .postings), array-same stripes 0 (S .«stripe_guards») (z .«stripe_guards»), array-same partitions 0 (S .«partition_guards») (z .«partition_guards»), array-same activeLimit 0 (S .active) (z .active))
+      rw (
+        array-same rows 0 (S .heads) (z .heads),
+        array-same places 0 (S .xmin) (z .xmin),
+        array-same places 0 (S .xmax) (z .xmax),
+        array-same places 0 (S .next) (z .next),
+        array-same places 0 (S .key) (z .key),
+        array-same places false (S .has) (z .has),
+        array-same places false (S .locked) (z .locked),
+        array-same places 0 (S .owner) (z .owner),
+        array-same postingLimit 0 (S .postings) (z .postings),
+        array-same stripes 0 (S .«stripe_guards») (z .«stripe_guards»),
+        array-same partitions 0 (S .«partition_guards») (z .«partition_guards»),
+        array-same activeLimit 0 (S .active) (z .active),
+      )
 
-  pub lent-repairable : repairable (lentStore (S .heads) (S .xmin) (S .xmax) (S .next) (S .key) (S .has) (S .locked) (S .owner) [] 0 [] [] (S .active) (S .clock) false (S .doomed)) ≡ repairable S
+  pub lent-repairable : repairable (lentStore (S .heads) (S .xmin) (S .xmax) (S .next) (S .key) (S .has) (S .locked) (S .owner) [] 0 [] []
+      (S .active) (S .clock) false (S .doomed))
+      ≡ repairable S
   unfolding repairable slotsInForm
   lent-repairable = ap repairable lent-is
 

@@ -39,7 +39,8 @@ module _ (l : List ℕ) (n : ℕ) where
   unfolding postingsForm every
   form-is =
       let ps = take n (array postingLimit 0 l) in
-      ap (λ b. leb n postingLimit && b) (tie (rising 0 ps) (all keyed ps) (allZero (drop n (array postingLimit 0 l))) (climb suc keyed 0 ps) (rising-climb keyed 0 ps))
+      ap (λ b. leb n postingLimit && b)
+      (tie (rising 0 ps) (all keyed ps) (allZero (drop n (array postingLimit 0 l))) (climb suc keyed 0 ps) (rising-climb keyed 0 ps))
 
   pub form-over : postingLimit < n → false ≡ postingsForm l n
   form-over h = rw (form-is, lt-leb n postingLimit h)
@@ -61,7 +62,8 @@ module _ (l : List ℕ) (n : ℕ) where
   form-rises e = every-each _ e .1 .0
 
 -- a posting by what its row's head has
-module _ (heads key : List ℕ) (has : List Bool) (c h : ℕ) (d : h ≡ getD heads (rowOf c) 0) (b : rowOf c < rows) (r : Bool) (e : r ≡ getD (flagsAtPlaces has) h false) where
+module _ (heads key : List ℕ) (has : List Bool) (c h : ℕ) (d : h ≡ getD heads (rowOf c) 0) (b : rowOf c < rows) (r : Bool)
+    (e : r ≡ getD (flagsAtPlaces has) h false) where
   pub told-absent : r ≡ false → false ≡ toldAt heads key has c
   unfolding toldAt
   told-absent f = rw (array-at rows 0 heads (rowOf c) b, ← d, ← e, f)

@@ -20,7 +20,8 @@ use Rattle.rules.specs.Admitted.{headPostings}
 abbrev Within : List ℕ → List ℕ → Type 0
 Within a b = (length a ≤ length b) × (length a ≡ length b → a ≡ b)
 
-module _ (lo x y : ℕ) (a b : List ℕ) (p : rising lo (x ∷ a) ≡ true) (q : rising lo (y ∷ b) ≡ true) (s : (c : ℕ) → memb c (x ∷ a) ≡ true → memb c (y ∷ b) ≡ true) where
+module _ (lo x y : ℕ) (a b : List ℕ) (p : rising lo (x ∷ a) ≡ true) (q : rising lo (y ∷ b) ≡ true)
+    (s : (c : ℕ) → memb c (x ∷ a) ≡ true → memb c (y ∷ b) ≡ true) where
   rest : rising (suc x) a ≡ true
   rest = and-true (leb lo x) (rising (suc x) a) p .1
 
@@ -31,11 +32,13 @@ module _ (lo x y : ℕ) (a b : List ℕ) (p : rising lo (x ∷ a) ≡ true) (q :
   -- the two start alike
   alike : x ≡ y → (rising (suc x) b ≡ true → ((c : ℕ) → memb c a ≡ true → memb c b ≡ true) → Within a b) → Within (x ∷ a) (y ∷ b)
   alike e h =
-      let w = h (rw e (and-true (leb lo y) (rising (suc y) b) q .1)) (λ c m. let d = rising-from (suc x) a c rest m in beyond c (mem-there c x a m) (omega arith)) in
+      let w = h (rw e (and-true (leb lo y) (rising (suc y) b) q .1))
+      (λ c m. let d = rising-from (suc x) a c rest m in beyond c (mem-there c x a m) (omega arith)) in
       (omega arith, λ l. rw e (ap (λ (t : List ℕ). y ∷ t) (w .1 (omega arith))))
 
   -- the other starts lower
-  lower : (x ≡ y → ⊥) → (rising (suc y) (x ∷ a) ≡ true → rising (suc y) b ≡ true → ((c : ℕ) → memb c (x ∷ a) ≡ true → memb c b ≡ true) → Within (x ∷ a) b) → Within (x ∷ a) (y ∷ b)
+  lower : (x ≡ y → ⊥) → (rising (suc y) (x ∷ a) ≡ true → rising (suc y) b ≡ true → ((c : ℕ) → memb c (x ∷ a) ≡ true → memb c b ≡ true) → Within (x ∷ a) b)
+      → Within (x ∷ a) (y ∷ b)
   lower n h =
       let rest′ = and-true (leb lo y) (rising (suc y) b) q .1 in
       let in′ : memb x b ≡ true = or-true (eqb x y) (memb x b) (s x (mem-here x a)) (λ e. absurd (n (eqb-true x y e))) (λ e. e) in
@@ -69,7 +72,8 @@ module _ (key : List ℕ) (has : List Bool) where
       iff
       (eqb c (posting k r))
       (eqb (rowOf c) r && eqb k (keyOf c))
-      (λ e. let d = eqb-true c (posting k r) e in and-both (eqb (rowOf c) r) (eqb k (keyOf c)) (eq-eqb (rowOf c) r (omega arith)) (eq-eqb k (keyOf c) (omega arith)))
+      (λ e. let d = eqb-true c (posting k r) e in
+      and-both (eqb (rowOf c) r) (eqb k (keyOf c)) (eq-eqb (rowOf c) r (omega arith)) (eq-eqb k (keyOf c) (omega arith)))
       (λ e.
       let d = eqb-true (rowOf c) r (and-true (eqb (rowOf c) r) (eqb k (keyOf c)) e .0) in
       let f = eqb-true k (keyOf c) (and-true (eqb (rowOf c) r) (eqb k (keyOf c)) e .1) in
@@ -113,7 +117,8 @@ module _ (key : List ℕ) (has : List Bool) where
       let x = posting (getD key h 0) r in
       let later = heads-count (suc r) hs (omega arith) in
       let row : rowOf x ≡ r = omega arith in
-      let free : memb x (headPostings key has (suc r) hs) ≡ false = rw (lt-ltb (rowOf x) (suc r) (omega arith)) at (heads-tell x (suc r) hs (omega arith) (omega arith)) in
+      let free : memb x (headPostings key has (suc r) hs) ≡ false =
+      rw (lt-ltb (rowOf x) (suc r) (omega arith)) at (heads-tell x (suc r) hs (omega arith) (omega arith)) in
       by (valuedHead h) (λ e. rw (e, length-into x (headPostings key has (suc r) hs) free, later)) (λ e. rw (e, later))
 
   -- a posting is one of the heads' if its row's head tells it

@@ -33,7 +33,8 @@ module _ (xmin xmax next act : List ℕ) (doomed : ℕ) (seen marks l : List ℕ
   unfolding restAt
   rest-marks = ap (λ m. all (restsAt (atPlaces xmin) (atPlaces xmax) (fin act doomed) doomed m) l) e
 
-module _ (heads xmin xmax next key : List ℕ) (has locked : List Bool) (owner act : List ℕ) (clock doomed : ℕ) (seen : List ℕ) (marks : seen ≡ walk (atRows heads) (atPlaces next) .seen) where
+module _ (heads xmin xmax next key : List ℕ) (has locked : List Bool) (owner act : List ℕ) (clock doomed : ℕ) (seen : List ℕ)
+    (marks : seen ≡ walk (atRows heads) (atPlaces next) .seen) where
   abbrev first : List Bool
   first =
       leb 1 clock
@@ -54,7 +55,11 @@ module _ (heads xmin xmax next key : List ℕ) (has locked : List Bool) (owner a
 
   row-is : every (first ++ (last ∷ [])) ≡ repairable lent
   unfolding repairable chainAt slotsInForm
-  row-is = rw (off-marks xmin xmax next act doomed seen (walk (atRows heads) (atPlaces next) .seen) (usedSlots (atPlaces xmin)) (marks-array (atRows heads) (atPlaces next) seen marks), marks-array (atRows heads) (atPlaces next) seen marks)
+  row-is = rw (
+    off-marks xmin xmax next act doomed seen (walk (atRows heads) (atPlaces next) .seen) (usedSlots (atPlaces xmin))
+        (marks-array (atRows heads) (atPlaces next) seen marks),
+    marks-array (atRows heads) (atPlaces next) seen marks,
+  )
 
   -- the test at place k fails; or all but the last hold
   pub repairable-fails : (k : ℕ) → getD (first ++ (last ∷ [])) k true ≡ false → false ≡ repairable lent
@@ -63,7 +68,8 @@ module _ (heads xmin xmax next key : List ℕ) (has locked : List Bool) (owner a
   pub repairable-last : (r : Bool) → Each Holds first → r ≡ last → r ≡ repairable lent
   repairable-last r h e = e ∙ sym (every-last first last h) ∙ row-is
 
-module _ (heads xmin xmax next key : List ℕ) (has locked : List Bool) (owner postings : List ℕ) (count : ℕ) (stripeGuards partitionGuards act : List ℕ) (clock : ℕ) (poisoned : Bool) (doomed : ℕ) (seen : List ℕ) (marks : seen ≡ walk (atRows heads) (atPlaces next) .seen) where
+module _ (heads xmin xmax next key : List ℕ) (has locked : List Bool) (owner postings : List ℕ) (count : ℕ) (stripeGuards partitionGuards act : List ℕ)
+    (clock : ℕ) (poisoned : Bool) (doomed : ℕ) (seen : List ℕ) (marks : seen ≡ walk (atRows heads) (atPlaces next) .seen) where
   abbrev posted : List ℕ
   posted = take count (array postingLimit 0 postings)
 
@@ -84,7 +90,9 @@ module _ (heads xmin xmax next key : List ℕ) (has locked : List Bool) (owner p
 
   rest-row-is : every (before ++ (healthy ∷ [])) ≡ resting whole
   unfolding resting repairable slotsInForm postingsInForm postingsOf postingsForm
-  rest-row-is = rw (rest-marks xmin xmax next act doomed seen (walk (atRows heads) (atPlaces next) .seen) (usedSlots (atPlaces xmin)) (marks-array (atRows heads) (atPlaces next) seen marks))
+  rest-row-is =
+      rw (rest-marks xmin xmax next act doomed seen (walk (atRows heads) (atPlaces next) .seen) (usedSlots (atPlaces xmin))
+      (marks-array (atRows heads) (atPlaces next) seen marks))
 
   -- the test at place k fails; or all but the last hold, which goes by poison, doom and the postings
   pub resting-fails : (k : ℕ) → getD (before ++ (healthy ∷ [])) k true ≡ false → false ≡ resting whole
@@ -105,6 +113,7 @@ module _ (heads xmin xmax next key : List ℕ) (has locked : List Bool) (owner p
     unfolding toldAt
     resting-told p d r e =
         let form = h .1 .1 .1 .0 in
-        let long : length posted ≡ count = length-take-le count (array postingLimit 0 postings) (rw (array-length postingLimit 0 postings) (form-count postings count form)) in
+        let long : length posted ≡ count =
+        length-take-le count (array postingLimit 0 postings) (rw (array-length postingLimit 0 postings) (form-count postings count form)) in
         let told = told-same (atPlaces key) (flagsAtPlaces has) (atRows heads) (array-length rows 0 heads) posted (form-rises postings count form) in
         decides r (rw (p, eq-eqb doomed 0 d) (e ∙ (rw long at told)))

@@ -83,7 +83,14 @@ module _ (xmin xmax next key : List ℕ) (has locked : List Bool) (owner : List 
     form-here : i < places → formLeft i ≡ (every here && formLeft (i + 1))
     unfolding formLeft
     form-here h =
-        rw (each-here nonzero isZero places 0 0 xmin xmax i true h, each-here nonzero isZero places 0 0 xmin next i true h, each-here nonzero not places 0 false xmin has i true h, each-here nonzero not places 0 false xmin locked i true h, each-here nonzero isZero places 0 0 xmin owner i true h, each-here (λ b. b) isZero places false 0 has key i true h)
+        rw (
+          each-here nonzero isZero places 0 0 xmin xmax i true h,
+          each-here nonzero isZero places 0 0 xmin next i true h,
+          each-here nonzero not places 0 false xmin has i true h,
+          each-here nonzero not places 0 false xmin locked i true h,
+          each-here nonzero isZero places 0 0 xmin owner i true h,
+          each-here (λ b. b) isZero places false 0 has key i true h,
+        )
         (both-every here (tests (i + 1)) refl)
 
     -- the slot at i is in form: the rest decides; or it is not; or none is left
@@ -95,4 +102,16 @@ module _ (xmin xmax next key : List ℕ) (has locked : List Bool) (owner : List 
 
     pub form-end : {w : Bool} → formLeft i ≡ w → places ≤ i → true ≡ w
     unfolding formLeft
-    form-end e h = rw (each-every (tests i) (sym (each-end nonzero isZero places 0 0 xmin xmax i _ refl h), (sym (each-end nonzero isZero places 0 0 xmin next i _ refl h), (sym (each-end nonzero not places 0 false xmin has i _ refl h), (sym (each-end nonzero not places 0 false xmin locked i _ refl h), (sym (each-end nonzero isZero places 0 0 xmin owner i _ refl h), (sym (each-end (λ b. b) isZero places false 0 has key i _ refl h), tt))))))) at e
+    form-end e h = rw (each-every (tests i) (
+      sym (each-end nonzero isZero places 0 0 xmin xmax i _ refl h),
+      (
+        sym (each-end nonzero isZero places 0 0 xmin next i _ refl h),
+        (
+          sym (each-end nonzero not places 0 false xmin has i _ refl h),
+          (
+            sym (each-end nonzero not places 0 false xmin locked i _ refl h),
+            (sym (each-end nonzero isZero places 0 0 xmin owner i _ refl h), (sym (each-end (λ b. b) isZero places false 0 has key i _ refl h), tt)),
+          ),
+        ),
+      ),
+    )) at e

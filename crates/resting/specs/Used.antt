@@ -53,12 +53,30 @@ module _ (xmin xmax next act : List ℕ) (doomed : ℕ) (seen : List ℕ) (i : �
       pub off-high : slots < getD next i 0 → false ≡ offAt xmin xmax next act doomed seen i
       unfolding offAt
       off-high k =
-          rw (array-at places 0 seen i h, array-at places 0 xmax i h, array-at places 0 next i h, eq-eqb (getD seen i 0) 0 s, eq-eqb (getD xmax i 0) 0 e, lt-leb (getD next i 0) slots k, and-false)
+          rw (
+            array-at places 0 seen i h,
+            array-at places 0 xmax i h,
+            array-at places 0 next i h,
+            eq-eqb (getD seen i 0) 0 s,
+            eq-eqb (getD xmax i 0) 0 e,
+            lt-leb (getD next i 0) slots k,
+            and-false,
+          )
 
       pub off-else : (r : Bool) → getD next i 0 ≤ slots → r ≡ fin act doomed (getD xmin i 0) → not r ≡ offAt xmin xmax next act doomed seen i
       unfolding offAt
       off-else r k m =
-          rw (m, array-at places 0 seen i h, array-at places 0 xmax i h, array-at places 0 next i h, array-at places 0 xmin i h, eq-eqb (getD seen i 0) 0 s, eq-eqb (getD xmax i 0) 0 e, le-leb (getD next i 0) slots k, and-true)
+          rw (
+            m,
+            array-at places 0 seen i h,
+            array-at places 0 xmax i h,
+            array-at places 0 next i h,
+            array-at places 0 xmin i h,
+            eq-eqb (getD seen i 0) 0 s,
+            eq-eqb (getD xmax i 0) 0 e,
+            le-leb (getD next i 0) slots k,
+            and-true,
+          )
 
 -- finished, or the doomed one
 unfoldable pub settledBy : List ℕ → ℕ → ℕ → Bool

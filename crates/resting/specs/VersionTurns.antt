@@ -84,7 +84,8 @@ module _ (xmin xmax next act : List ℕ) (doomed : ℕ) where
     unfolding chainAt tailAt
     first-zero f n = rw (chain-cons places (atPlaces next) h (omega arith) k, ← d, ← e, f, eq-eqb over 0 n)
 
-    pub first-unfinished : fin act doomed t ≡ true → (over ≡ 0 → ⊥) → fin act doomed over ≡ false → tailAt xmin xmax next act doomed over places h ≡ chainAt xmin xmax next act doomed h
+    pub first-unfinished : fin act doomed t ≡ true → (over ≡ 0 → ⊥) → fin act doomed over ≡ false
+        → tailAt xmin xmax next act doomed over places h ≡ chainAt xmin xmax next act doomed h
     unfolding chainAt tailAt
     first-unfinished f n g = rw (chain-cons places (atPlaces next) h (omega arith) k, ← d, ← e, f, ne-eqb over 0 n, g)
 
@@ -104,15 +105,47 @@ module _ (xmin xmax next act : List ℕ) (doomed : ℕ) where
         pub behind-other : (u ≡ 0 → ⊥) → (u ≡ t → ⊥) → false ≡ chainAt xmin xmax next act doomed h
         unfolding chainAt
         behind-other a b =
-            rw (chain-cons places (atPlaces next) h (omega arith) k, ← d, ← e, ← g, f, eq-eqb over 0 z, chain-cons slots (atPlaces next) second (omega arith) n, ← x, ne-eqb u 0 a, ne-eqb u t b)
+            rw (
+              chain-cons places (atPlaces next) h (omega arith) k,
+              ← d,
+              ← e,
+              ← g,
+              f,
+              eq-eqb over 0 z,
+              chain-cons slots (atPlaces next) second (omega arith) n,
+              ← x,
+              ne-eqb u 0 a,
+              ne-eqb u t b,
+            )
 
         -- by none or by it
         pub behind-zero : u ≡ 0 → tailAt xmin xmax next act doomed u slots second ≡ chainAt xmin xmax next act doomed h
         unfolding chainAt tailAt
         behind-zero a =
-            rw (chain-cons places (atPlaces next) h (omega arith) k, ← d, ← e, ← g, f, eq-eqb over 0 z, chain-cons slots (atPlaces next) second (omega arith) n, ← x, eq-eqb u 0 a)
+            rw (
+              chain-cons places (atPlaces next) h (omega arith) k,
+              ← d,
+              ← e,
+              ← g,
+              f,
+              eq-eqb over 0 z,
+              chain-cons slots (atPlaces next) second (omega arith) n,
+              ← x,
+              eq-eqb u 0 a,
+            )
 
         pub behind-it : u ≡ t → tailAt xmin xmax next act doomed u slots second ≡ chainAt xmin xmax next act doomed h
         unfolding chainAt tailAt
         behind-it a =
-            rw (chain-cons places (atPlaces next) h (omega arith) k, ← d, ← e, ← g, f, eq-eqb over 0 z, chain-cons slots (atPlaces next) second (omega arith) n, ← x, eq-eqb u t a, or-true)
+            rw (
+              chain-cons places (atPlaces next) h (omega arith) k,
+              ← d,
+              ← e,
+              ← g,
+              f,
+              eq-eqb over 0 z,
+              chain-cons slots (atPlaces next) second (omega arith) n,
+              ← x,
+              eq-eqb u t a,
+              or-true,
+            )

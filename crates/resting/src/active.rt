@@ -7,9 +7,9 @@ ghost use Rattle.rules.specs.Lists.{allZero};
 ghost use Rattle.rules.specs.Store.{activeInForm};
 ghost use Rattle.rules.specs.Admitted.{finished};
 ghost use Rattle.fields.specs.Lent.{array};
-use records::Txid;
 use fields::lent::zeros_from;
 use fields::txids;
+use records::Txid;
 
 // Zero from place n on.
 pub fn zero_from(txids: &[u64; Txid::ACTIVE], n: usize) -> bool

@@ -11,10 +11,10 @@ ghost use Rattle.resting.specs.Used.{offAt, settledBy, restAt};
 use super::active::is_finished;
 use super::lent::txid_at;
 use super::lent::word_at;
+use fields::lent::place;
 use records::RowId;
 use records::SlotPtr;
 use records::Txid;
-use fields::lent::place;
 
 // Finished versions of at most `left` slots from p on, the first with xmax `over`, each next one with the xmin before it.
 fn tail_ok<'a>(
@@ -102,7 +102,8 @@ pub fn chains_ok<'a>(
     active: &'a [u64; Txid::ACTIVE],
     doomed: u64,
 ) -> bool
-    ensures { λ r. ⌜ r ≡ all (chainAt (now (xmin .entry)) (now (xmax .entry)) (now (next .entry)) (now (active .entry)) doomed) (atRows (now (heads .entry))) ⌝ }
+    ensures { λ r. ⌜ r ≡ all (chainAt (now (xmin .entry)) (now (xmax .entry)) (now (next .entry)) (now (active .entry)) doomed)
+        (atRows (now (heads .entry))) ⌝ }
 {
     let mut r: usize = 0;
     while r < RowId::ROWS {
@@ -148,7 +149,8 @@ pub fn off_slots_ok<'a>(
     doomed: u64,
     seen: &[u8; SlotPtr::PLACES],
 ) -> bool
-    ensures { λ r. ⌜ r ≡ all (offAt (now (xmin .entry)) (now (xmax .entry)) (now (next .entry)) (now (active .entry)) doomed (now (seen .entry))) (usedSlots (atPlaces (now (xmin .entry)))) ⌝ }
+    ensures { λ r. ⌜ r ≡ all (offAt (now (xmin .entry)) (now (xmax .entry)) (now (next .entry)) (now (active .entry)) doomed (now (seen .entry)))
+        (usedSlots (atPlaces (now (xmin .entry)))) ⌝ }
 {
     let mut i: usize = 0;
     while i < SlotPtr::PLACES {
@@ -198,7 +200,8 @@ pub fn chains_rest<'a>(
     doomed: u64,
     seen: &[u8; SlotPtr::PLACES],
 ) -> bool
-    ensures { λ r. ⌜ r ≡ all (restAt (now (xmin .entry)) (now (xmax .entry)) (now (active .entry)) doomed (now (seen .entry))) (usedSlots (atPlaces (now (xmin .entry)))) ⌝ }
+    ensures { λ r. ⌜ r ≡ all (restAt (now (xmin .entry)) (now (xmax .entry)) (now (active .entry)) doomed (now (seen .entry)))
+        (usedSlots (atPlaces (now (xmin .entry)))) ⌝ }
 {
     let mut i: usize = 0;
     while i < SlotPtr::PLACES {

@@ -4,9 +4,9 @@ ghost use mathlib.Core.Path.{_≡_};
 ghost use Rattle.records.specs.Limits.{stripes, partitions};
 ghost use Rattle.rules.specs.Lists.{allZero};
 ghost use Rattle.fields.specs.Lent.{array};
+use fields::lent::zeros_from;
 use records::RowId;
 use records::Store;
-use fields::lent::zeros_from;
 
 pub fn no_stripe_held(guards: &[u64; Store::STRIPES]) -> bool
     ensures { λ r. ⌜ r ≡ allZero (array stripes 0 (now (guards .entry))) ⌝ }

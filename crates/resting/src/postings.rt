@@ -12,10 +12,10 @@ ghost use Rattle.fields.specs.Climb.{climb};
 ghost use Rattle.resting.specs.PostingForm.{keyed, postingsForm, toldAt};
 use super::lent::flag_at;
 use super::lent::word_at;
+use fields::lent::zeros_from;
 use records::RowId;
 use records::SlotPtr;
 use records::Store;
-use fields::lent::zeros_from;
 
 // past the postings of the largest key
 const END: u64 = 4294967296 * ROWS;
@@ -127,7 +127,8 @@ pub fn postings_told<'a>(
     postings: &'a [u64; Store::POSTINGS],
     n: usize,
 ) -> bool
-    ensures { λ r. ⌜ r ≡ (all (toldAt (now (heads .entry)) (now (key .entry)) (now (has .entry))) (take n (array postingLimit 0 (now (postings .entry)))) && eqb n (length (those (λ h. getD (flagsAtPlaces (now (has .entry))) h false) (atRows (now (heads .entry)))))) ⌝ }
+    ensures { λ r. ⌜ r ≡ (all (toldAt (now (heads .entry)) (now (key .entry)) (now (has .entry))) (take n (array postingLimit 0 (now (postings .entry))))
+        && eqb n (length (those (λ h. getD (flagsAtPlaces (now (has .entry))) h false) (atRows (now (heads .entry)))))) ⌝ }
 {
     each_told(heads, key, has, postings, n) && n == valued(heads, has)
 }

@@ -13,11 +13,11 @@ use super::chains::off_slots_ok;
 use super::slots::slots_in_form;
 use super::slots::used_if_marked;
 use super::slots::xmins_below;
+use fields::walk::walk_all;
 use records::RowId;
 use records::SlotPtr;
 use records::Store;
 use records::Txid;
-use fields::walk::walk_all;
 
 // The store with these fields is repairable; `seen` comes back with the marks of the walk.
 pub(crate) fn repairable_of<'a>(
@@ -34,7 +34,8 @@ pub(crate) fn repairable_of<'a>(
     doomed: u64,
     seen: &mut [u8; SlotPtr::PLACES],
 ) -> bool
-    ensures answer { λ r. ⌜ r ≡ repairable (lentStore (now (heads .entry)) (now (xmin .entry)) (now (xmax .entry)) (now (next .entry)) (now (key .entry)) (now (has .entry)) (now (locked .entry)) (now (owner .entry)) [] 0 [] [] (now (active .entry)) clock false doomed) ⌝ }
+    ensures answer { λ r. ⌜ r ≡ repairable (lentStore (now (heads .entry)) (now (xmin .entry)) (now (xmax .entry)) (now (next .entry))
+        (now (key .entry)) (now (has .entry)) (now (locked .entry)) (now (owner .entry)) [] 0 [] [] (now (active .entry)) clock false doomed) ⌝ }
     ensures marks { λ r. ⌜ now (seen .exit) ≡ walk (atRows (now (heads .entry))) (atPlaces (now (next .entry))) .seen ⌝ }
 {
     let apart = walk_all(heads, next, seen);

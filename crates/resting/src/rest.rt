@@ -36,7 +36,9 @@ fn resting_of<'a>(
     doomed: u64,
     seen: &mut [u8; SlotPtr::PLACES],
 ) -> bool
-    ensures answer { λ r. ⌜ r ≡ resting (lentStore (now (heads .entry)) (now (xmin .entry)) (now (xmax .entry)) (now (next .entry)) (now (key .entry)) (now (has .entry)) (now (locked .entry)) (now (owner .entry)) (now (postings .entry)) count (now (stripes .entry)) (now (partitions .entry)) (now (active .entry)) clock poisoned doomed) ⌝ }
+    ensures answer { λ r. ⌜ r ≡ resting (lentStore (now (heads .entry)) (now (xmin .entry)) (now (xmax .entry)) (now (next .entry))
+        (now (key .entry)) (now (has .entry)) (now (locked .entry)) (now (owner .entry)) (now (postings .entry)) count (now (stripes .entry))
+        (now (partitions .entry)) (now (active .entry)) clock poisoned doomed) ⌝ }
     ensures marks { λ r. ⌜ now (seen .exit) ≡ walk (atRows (now (heads .entry))) (atPlaces (now (next .entry))) .seen ⌝ }
 {
     if !repairable_of(

@@ -6,7 +6,8 @@ use lib.ListN.{length, take, replicate}
 use lib.Dec.{ltb, leb}
 use Rattle.records.specs.Limits.{writeLimit}
 use Rattle.rules.specs.Lists.{memb, pad}
-use Rattle.rules.specs.Types.{Store, Tx, Schedule, Record, Events, Answer, Cut, Uncut, After, Open, Closed, Refusal, Done, NotResting, Unfit, NotActive, CutOff}
+use Rattle.rules.specs.Types.{Store, Tx, Schedule, Record, Events, Answer, Cut, Uncut, After}
+use Rattle.rules.specs.Types.{Open, Closed, Refusal, Done, NotResting, Unfit, NotActive, CutOff}
 use Rattle.records.specs.Zero.{noWrite, zeroTx}
 use Rattle.rules.specs.Store.{activeTxids}
 use Rattle.rules.specs.Transaction.{finals}

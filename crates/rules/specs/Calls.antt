@@ -7,7 +7,8 @@ use lib.Dec.{eqb, ltb, leb}
 use Rattle.records.specs.Limits.{rows, activeLimit, writeLimit, readLimit, clockEnd, places}
 use Rattle.rules.specs.Lists.{any, memb, those, pad, inOrder, firstOf, firstZero}
 use Rattle.rules.specs.Types.{Store, Tx, RowId, ReadRecord, IndexRead, Reply, Seen, Written, Found, Value, Absent, Open, Closed}
-use Rattle.rules.specs.Types.{Refusal, NotResting, Unfit, NotActive, FoundPoisoned, ActiveFull, ClockAtEnd, RowTooHigh, ReadsFull, WritesFull, SlotsFull, LockedByAnother, NoHead}
+use Rattle.rules.specs.Types.{Refusal, NotResting, Unfit, NotActive, FoundPoisoned, ActiveFull, ClockAtEnd}
+use Rattle.rules.specs.Types.{RowTooHigh, ReadsFull, WritesFull, SlotsFull, LockedByAnother, NoHead}
 use Rattle.records.specs.Zero.{onlyTxid, zeroTx}
 use Rattle.rules.specs.Store.{valueAt, carries, keyOf, rowOf, stripeOf, postingsOf, activeTxids}
 use Rattle.rules.specs.Transaction.{writesOf, readsOf, indexReadsOf, sees, lastOwn, withWrites, withReads, withIndexReads}
@@ -33,7 +34,22 @@ admitsHealthy S x more = admits S x (refuse (S .poisoned) (FoundPoisoned Open) �
 unfoldable pub begun : Store → Tx
 begun S =
     let act = activeTxids (S .active) in
-    record { txid = record { 0 = S .clock }; «snapshot_xmin» = record { 0 = getD act 0 (S .clock) }; «snapshot_xmax» = record { 0 = S .clock }; snapshot = S .active; «snapshot_count» = length act; writes = zeroTx .writes; «write_count» = 0; reads = zeroTx .reads; «read_count» = 0; «index_reads» = zeroTx .«index_reads»; «index_read_count» = 0; «index_conflict» = false; savepoints = zeroTx .savepoints; «savepoint_count» = 0 }
+    record {
+      txid = record { 0 = S .clock };
+      «snapshot_xmin» = record { 0 = getD act 0 (S .clock) };
+      «snapshot_xmax» = record { 0 = S .clock };
+      snapshot = S .active;
+      «snapshot_count» = length act;
+      writes = zeroTx .writes;
+      «write_count» = 0;
+      reads = zeroTx .reads;
+      «read_count» = 0;
+      «index_reads» = zeroTx .«index_reads»;
+      «index_read_count» = 0;
+      «index_conflict» = false;
+      savepoints = zeroTx .savepoints;
+      «savepoint_count» = 0;
+    }
 
 -- "begin 1, 9, 21, 22"
 unfoldable pub begin : Store → Reply

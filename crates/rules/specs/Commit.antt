@@ -5,7 +5,8 @@ use Prim.Native.Nat.{ℕ, suc}
 use lib.ListN.{length, take}
 use lib.Dec.{eqb, ltb}
 use Rattle.rules.specs.Types.{Store, Tx, Schedule, Fate, Open, Undone, Standing}
-use Rattle.rules.specs.Types.{Refusal, Done, StepFailed, PrepareFailed, PreparePanicked, Conflict, BoundDurably, FoundPoisoned, InsertFailed, CallbackFailed, CallbackPanicked, RemoveFailed, PublishFailed, RecycleFailed, FinishFailed, StampFailed, CleanupFailed}
+use Rattle.rules.specs.Types.{Refusal, Done, StepFailed, PrepareFailed, PreparePanicked, Conflict, BoundDurably, FoundPoisoned, InsertFailed}
+use Rattle.rules.specs.Types.{CallbackFailed, CallbackPanicked, RemoveFailed, PublishFailed, RecycleFailed, FinishFailed, StampFailed, CleanupFailed}
 use Rattle.records.specs.Zero.{onlyTxid}
 use Rattle.rules.specs.Transaction.{finals, noWrites, noAccesses, emptied}
 use Rattle.rules.specs.Faults.{F, B, P, X, Q, faultsOf, faultAt}
@@ -81,7 +82,14 @@ module _ (S : Store) (x : Tx) (logged : Bool) (plan : Schedule) where
   abbrev pub aborts : List Put → (Fate → Refusal) → (Fate → Refusal) → Bool → Bool → Step
   aborts back kind failed found preparing =
       let a = abortOrPoison (S .poisoned) in
-      ends (back ++ a .puts) (record { refusal = cond (a .failed) failed kind (fate (a .failed) true); tx = a .tx; poisoned = found || a .failed; cleanup = preparing && a .failed; undone = false; dropped = false })
+      ends (back ++ a .puts) (record {
+        refusal = cond (a .failed) failed kind (fate (a .failed) true);
+        tx = a .tx;
+        poisoned = found || a .failed;
+        cleanup = preparing && a .failed;
+        undone = false;
+        dropped = false;
+      })
 
   -- 1 open was tried as number 3; 2 has no fault
   abbrev pub ensureOpen : Step
@@ -148,13 +156,21 @@ module _ (S : Store) (x : Tx) (logged : Bool) (plan : Schedule) where
       let kind = cond panics CallbackPanicked (cond bad CleanupFailed CallbackFailed) in
       stopIf (logged && (fails 16 || (worse || panics)))
       (ends (cond worse (putPoison ∷ []) [] ++ (b .puts ++ (a .puts ++ release S x)))
-      (record { refusal = kind (fate (worse || bad) (not (a .failed))); tx = a .tx; poisoned = worse || bad; cleanup = false; undone = not (b .failed); dropped = false }))
+      (record {
+        refusal = kind (fate (worse || bad) (not (a .failed)));
+        tx = a .tx;
+        poisoned = worse || bad;
+        cleanup = false;
+        undone = not (b .failed);
+        dropped = false;
+      }))
       (goes [])
 
   -- poisoned and undone: the stores made so far, the poison "right after the failure causing it", the finish, the guards
   abbrev pub spoils : List Put → Put → List Put → (Fate → Refusal) → Tx → Bool → Step
   spoils made poisoning finish kind y drops =
-      ends (made ++ poisoning ∷ finish ++ release S x) (record { refusal = kind Undone; tx = y; poisoned = true; cleanup = false; undone = false; dropped = drops })
+      ends (made ++ poisoning ∷ finish ++ release S x)
+      (record { refusal = kind Undone; tx = y; poisoned = true; cleanup = false; undone = false; dropped = drops })
 
   unfoldable pub removeIndexSources : Step
   removeIndexSources = stopIf (fails 17) (spoils (take (count 17) (removals S x)) putPoison [] RemoveFailed x false) (goes (removals S x))

@@ -3,7 +3,10 @@ use mathlib.Core.Bool.{Bool, cond}
 use mathlib.Core.List.{List, [], _∷_}
 use Prim.Native.Nat.{ℕ}
 use lib.Dec.{eqb}
-use Rattle.rules.specs.Types.{Fate, Open, Closed, Undone, Refusal, Done, NotResting, Unfit, NotActive, StepFailed, PrepareFailed, PreparePanicked, Conflict, BoundDurably, FoundPoisoned, InsertFailed, CallbackFailed, CallbackPanicked, RemoveFailed, PublishFailed, RecycleFailed, FinishFailed, StampFailed, CutOff, CleanupFailed, NotRepairable, ActiveFull, ClockAtEnd, RowTooHigh, ReadsFull, WritesFull, SlotsFull, LockedByAnother, NoHead}
+use Rattle.rules.specs.Types.{Fate, Open, Closed, Undone, Refusal, Done, NotResting, Unfit, NotActive, StepFailed, PrepareFailed}
+use Rattle.rules.specs.Types.{PreparePanicked, Conflict, BoundDurably, FoundPoisoned, InsertFailed, CallbackFailed, CallbackPanicked}
+use Rattle.rules.specs.Types.{RemoveFailed, PublishFailed, RecycleFailed, FinishFailed, StampFailed, CutOff, CleanupFailed, NotRepairable}
+use Rattle.rules.specs.Types.{ActiveFull, ClockAtEnd, RowTooHigh, ReadsFull, WritesFull, SlotsFull, LockedByAnother, NoHead}
 
 abbrev pub numberOf : Refusal → ℕ
 numberOf Done = 0

@@ -36,7 +36,7 @@ pub record Out : Type 0 where
   pub number : ℕ
   pub third : Third
 
--- the store, the transactions of the 16 places, the pending faults
+-- the store, the transactions of the places, the pending faults
 pub record Desk : Type 0 where
   pub store : Store
   pub txs : List Tx

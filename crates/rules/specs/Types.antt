@@ -24,4 +24,7 @@ pub use Rattle.records.specs.declared.Cut.the-variants.{Uncut, After}
 pub use Rattle.records.specs.declared.Fate.{Fate}
 pub use Rattle.records.specs.declared.Fate.the-variants.{Open, Closed, Undone, Standing}
 pub use Rattle.records.specs.declared.Refusal.{Refusal}
-pub use Rattle.records.specs.declared.Refusal.the-variants.{Done, NotResting, Unfit, NotActive, StepFailed, PrepareFailed, PreparePanicked, Conflict, BoundDurably, FoundPoisoned, InsertFailed, CallbackFailed, CallbackPanicked, RemoveFailed, PublishFailed, RecycleFailed, FinishFailed, StampFailed, CutOff, CleanupFailed, NotRepairable, ActiveFull, ClockAtEnd, RowTooHigh, ReadsFull, WritesFull, SlotsFull, LockedByAnother, NoHead}
+pub use Rattle.records.specs.declared.Refusal.the-variants.{Done, NotResting, Unfit, NotActive, StepFailed, PrepareFailed, PreparePanicked, Conflict}
+pub use Rattle.records.specs.declared.Refusal.the-variants.{BoundDurably, FoundPoisoned, InsertFailed, CallbackFailed, CallbackPanicked, RemoveFailed}
+pub use Rattle.records.specs.declared.Refusal.the-variants.{PublishFailed, RecycleFailed, FinishFailed, StampFailed, CutOff, CleanupFailed, NotRepairable}
+pub use Rattle.records.specs.declared.Refusal.the-variants.{ActiveFull, ClockAtEnd, RowTooHigh, ReadsFull, WritesFull, SlotsFull, LockedByAnother, NoHead}

@@ -13,13 +13,15 @@ use Rattle.rules.specs.Types.{Store, Tx, Schedule, Answer, Cut, Uncut, After, F
 use Rattle.rules.specs.Transaction.{finals, noWrites, noAccesses, emptied}
 use Rattle.rules.specs.Admitted.{resting}
 use Rattle.rules.specs.Numbers.{numberOf, fateIn, fate, isDone}
-use Rattle.rules.specs.Puts.{Put, kStripe, kPartition, kDrop, kPoison, kDoom, is, putStripe, putPartition, putDrop, putPoison, putDoom, apply, applyAll, abortPuts}
+use Rattle.rules.specs.Puts.{Put, kStripe, kPartition, kDrop, kPoison, kDoom, is, putStripe}
+use Rattle.rules.specs.Puts.{putPartition, putDrop, putPoison, putDoom, apply, applyAll, abortPuts}
 use Rattle.rules.specs.Changes.{changes, guardedStripes, guardedPartitions, indexGuards, partitionGuards, release, stamping}
 use Rattle.rules.specs.Commit.{End, Clean, poison, fails, count, finish, abortOrPoison, runOf}
 use Rattle.rules.specs.Answer.{recordOf, noRecord, uncut, cutOff, answer, commit}
 use Rattle.run_laws.specs.OnlyKinds.{only, only-both, only-map, only-if, kept, is-not}
 use Rattle.run_laws.specs.GuardPuts.{applyAll-append}
-use Rattle.run_laws.specs.Outcome.{afterFinish, aborting, Abort, unprepared, panicked, busy, conflict, unhealthy, Spoil, unremoved, unpublished, unrecycled, unfinished, Outcome, done, stays, aborts, uninserted, uncalled, spoils, unstamped, outcome}
+use Rattle.run_laws.specs.Outcome.{afterFinish, aborting, Abort, unprepared, panicked, busy, conflict, unhealthy, Spoil, unremoved, unpublished}
+use Rattle.run_laws.specs.Outcome.{unrecycled, unfinished, Outcome, done, stays, aborts, uninserted, uncalled, spoils, unstamped, outcome}
 use Rattle.statements.specs.Words.{Admitted}
 use Rattle.run_laws.specs.FirstRows.{every-commit, whole, stay-not, abort-not, called-not, spoil-not, given-back}
 
@@ -65,7 +67,8 @@ module _ (S : Store) (x : Tx) (logged : Bool) (plan : Schedule) where
       rw u (only-emptied _ _ _ (outcome S x logged plan) z, rw z)
 
   -- 5, 6, 7 and 9: what the abort leaves, guards given back
-  abort-fate : {kind failed : Fate → Refusal} {found preparing : Bool} → Abort S x logged plan kind failed found preparing → (b : Bool) (f : Fate) → fateIn (cond b failed kind f) ≡ f
+  abort-fate : {kind failed : Fate → Refusal} {found preparing : Bool} → Abort S x logged plan kind failed found preparing → (b : Bool) (f : Fate)
+      → fateIn (cond b failed kind f) ≡ f
   abort-fate (unprepared h) true f = refl
   abort-fate (unprepared h) false f = refl
   abort-fate (panicked h) true f = refl
@@ -140,10 +143,12 @@ module _ (S : Store) (x : Tx) (logged : Bool) (plan : Schedule) where
     pub fate : f ≡ cond (eqb n 17) Standing Undone
 
   -- the poison in the middle
-  around : (made some : List Put) (p : Put) (finishing : List Put) → made ++ (some ++ p ∷ finishing ++ release S x) ≡ (made ++ some) ++ p ∷ (finishing ++ release S x)
+  around : (made some : List Put) (p : Put) (finishing : List Put)
+      → made ++ (some ++ p ∷ finishing ++ release S x) ≡ (made ++ some) ++ p ∷ (finishing ++ release S x)
   around made some p finishing = simp append-assoc
 
-  spoiled : {n : ℕ} {made some finishing : List Put} {poisons : Put} {kind : Fate → Refusal} {y : Tx} {drops : Bool} → Spoil S x logged plan n made some poisons finishing kind y drops
+  spoiled : {n : ℕ} {made some finishing : List Put} {poisons : Put} {kind : Fate → Refusal} {y : Tx} {drops : Bool}
+      → Spoil S x logged plan n made some poisons finishing kind y drops
       → Left (numberOf (kind Undone)) (applyAll (made ++ (some ++ poisons ∷ finishing ++ release S x)) S) y (fateIn (kind Undone))
   spoiled {made = made} {some = some} (unremoved k) = record {
     poisoned = rw (around made some putPoison []) (poisoned-by (made ++ some) putPoison (release S x) S refl);
@@ -182,7 +187,9 @@ module _ (S : Store) (x : Tx) (logged : Bool) (plan : Schedule) where
   only-left _ _ _ (uncalled p l k) h = clash h (called-not S x logged plan late refl refl refl)
   only-left _ _ _ (spoils p k) h = spoiled k
   only-left _ _ _ (unstamped p k) h = record {
-    poisoned = rw (sym (append-assoc (afterFinish S x logged plan) (take (count S x logged plan 22) (stamping S x)) (putPoison ∷ release S x))) (poisoned-by (afterFinish S x logged plan ++ take (count S x logged plan 22) (stamping S x)) putPoison (release S x) S refl);
+    poisoned =
+        rw (sym (append-assoc (afterFinish S x logged plan) (take (count S x logged plan 22) (stamping S x)) (putPoison ∷ release S x)))
+        (poisoned-by (afterFinish S x logged plan ++ take (count S x logged plan 22) (stamping S x)) putPoison (release S x) S refl);
     doomed = λ h. clash {b = false} h refl;
     lists = refl;
     fate = refl;

@@ -29,7 +29,14 @@ module _ (S : Store) (x : Tx) (logged : Bool) (plan : Schedule) (n : ℕ) (ok : 
 
   -- "18 cut: n stores done; transaction zero": the first n of the uncut run's; record and events zero, closed
   pub row-18 : ltb n made ≡ true
-      → commit S x logged plan (After n) ≡ record { refusal = CutOff Closed; «record» = noRecord; store = applyAll (take n (runOf S x logged plan .puts)) S; tx = zeroTx; events = noEvents; stores = n }
+      → commit S x logged plan (After n) ≡ record {
+        refusal = CutOff Closed;
+        «record» = noRecord;
+        store = applyAll (take n (runOf S x logged plan .puts)) S;
+        tx = zeroTx;
+        events = noEvents;
+        stores = n;
+      }
   unfolding cutOff
   row-18 h = rw (admitted S x logged plan (After n) ok, sym (ap (ltb n) made-is) ∙ h)
 

@@ -15,12 +15,15 @@ use Rattle.rules.specs.Numbers.{numberOf, isDone}
 use Rattle.rules.specs.Puts.{Put}
 use Rattle.rules.specs.Commit.{End, runOf}
 use Rattle.rules.specs.Answer.{eventsOf, noEvents, uncut, cutOff, answer, commit}
-use Rattle.run_laws.specs.Outcome.{aborting, worse, undoing, Spoil, unremoved, unpublished, unrecycled, unfinished, Outcome, done, stays, aborts, uninserted, uncalled, spoils, unstamped, outcome}
+use Rattle.run_laws.specs.Outcome.{aborting, worse, undoing, Spoil, unremoved, unpublished, unrecycled, unfinished}
+use Rattle.run_laws.specs.Outcome.{Outcome, done, stays, aborts, uninserted, uncalled, spoils, unstamped, outcome}
 use Rattle.run_laws.specs.FirstRows.{every-commit, stay-not, abort-not, called-not, spoil-not}
 
 -- 000's definitions, word for word
 abbrev pub validated : Events → Bool
-validated s = s .«health_checked» && (not (s .«health_cleanup_required») && (s .«index_validated» && (s .«row_lock_validated» && (s .«serial_validated» && s .«base_validated»))))
+validated s =
+    s .«health_checked»
+    && (not (s .«health_cleanup_required») && (s .«index_validated» && (s .«row_lock_validated» && (s .«serial_validated» && s .«base_validated»))))
 
 abbrev pub safeRelease : Events → Bool
 safeRelease s =
@@ -42,7 +45,8 @@ module _ (S : Store) (x : Tx) (logged : Bool) (plan : Schedule) where
   abbrev pub ev : ℕ → End → Events
   ev n d = eventsOf logged (S .bound) (ltb 0 (length (finals x))) n d
 
-  spoiled : {n : ℕ} {made some finishing : List Put} {poisons : Put} {kind : Fate → Refusal} {y : Tx} {drops : Bool} → Spoil S x logged plan n made some poisons finishing kind y drops
+  spoiled : {n : ℕ} {made some finishing : List Put} {poisons : Put} {kind : Fate → Refusal} {y : Tx} {drops : Bool}
+      → Spoil S x logged plan n made some poisons finishing kind y drops
       → safeRelease (ev n (record { refusal = kind Undone; tx = y; poisoned = true; cleanup = false; undone = false; dropped = drops })) ≡ true
   unfolding eventsOf
   spoiled (unremoved k) = refl
@@ -96,7 +100,8 @@ module _ (S : Store) (x : Tx) (logged : Bool) (plan : Schedule) where
     pub success : ok ≡ true → completed s ≡ true
     pub failure : ok ≡ false → s .«rows_published» ≡ true → s .poisoned ≡ true
 
-  published : (n : ℕ) (ps : List Put) (d : End) → Outcome S x logged plan n ps d → isZero (numberOf (d .refusal)) ≡ false → ev n d .«rows_published» ≡ true → d .poisoned ≡ true
+  published : (n : ℕ) (ps : List Put) (d : End) → Outcome S x logged plan n ps d → isZero (numberOf (d .refusal)) ≡ false
+      → ev n d .«rows_published» ≡ true → d .poisoned ≡ true
   unfolding eventsOf
   published _ _ _ (done p) h r = clash refl h
   published n _ _ (stays l t k) h r = clash r (below n 17 (omega arith) l)
@@ -156,7 +161,8 @@ module _ (S : Store) (x : Tx) (logged : Bool) (plan : Schedule) where
   run-silent : (cut : Cut) → Silent (answer S x logged (runOf S x logged plan) cut)
   unfolding uncut cutOff
   run-silent Uncut = λ h. clash h (never-silent _ _ _ (outcome S x logged plan))
-  run-silent (After n) = by (ltb n (length (runOf S x logged plan .puts))) (λ e. rw e (λ h. refl)) (λ e. rw e (λ h. clash h (never-silent _ _ _ (outcome S x logged plan))))
+  run-silent (After n) =
+      by (ltb n (length (runOf S x logged plan .puts))) (λ e. rw e (λ h. refl)) (λ e. rw e (λ h. clash h (never-silent _ _ _ (outcome S x logged plan))))
 
   pub events-zero : (cut : Cut) → let a = commit S x logged plan cut in silent (numberOf (a .refusal)) ≡ true → a .events ≡ noEvents
   events-zero cut = every-commit S x logged plan Silent cut (λ h. refl) (λ h. refl) (λ h. refl) (λ ok. run-silent cut)

@@ -8,7 +8,8 @@ use lib.ListN.{length, length-append, length-map}
 use lib.Dec.{eqb, ltb}
 use Rattle.basic_laws.specs.Cases.{clash, by, and-true}
 use Rattle.rules.specs.Lists.{those, flat, memb, isZero}
-use Rattle.rules.specs.Types.{Store, Tx, Write, Schedule, Answer, Cut, Uncut, After, Fate, Open, Closed, Refusal, NotResting, Unfit, NotActive, Conflict, CleanupFailed, CallbackFailed, CallbackPanicked}
+use Rattle.rules.specs.Types.{Store, Tx, Write, Schedule, Answer, Cut, Uncut, After, Fate, Open, Closed, Refusal}
+use Rattle.rules.specs.Types.{NotResting, Unfit, NotActive, Conflict, CleanupFailed, CallbackFailed, CallbackPanicked}
 use Rattle.rules.specs.Store.{activeTxids}
 use Rattle.rules.specs.Transaction.{finals}
 use Rattle.rules.specs.Admitted.{resting}
@@ -16,12 +17,15 @@ use Rattle.rules.specs.Fit.{fit}
 use Rattle.rules.specs.Faults.{F, scheduleFit}
 use Rattle.rules.specs.Numbers.{numberOf, fateIn, fate, isDone}
 use Rattle.rules.specs.Puts.{Put, applyAll}
-use Rattle.rules.specs.Changes.{changes, destinations, sources, changedStripes, guardedStripes, guardedPartitions, indexGuards, partitionGuards, release, publishOne, publication, insertions, removals, recycled, recycling, stamping}
+use Rattle.rules.specs.Changes.{changes, destinations, sources, changedStripes, guardedStripes, guardedPartitions, indexGuards}
+use Rattle.rules.specs.Changes.{partitionGuards, release, publishOne, publication, insertions, removals, recycled, recycling, stamping}
 use Rattle.rules.specs.Tests.{conflicting}
 use Rattle.rules.specs.Commit.{End, runOf, strikes, fails, unloggedWrites}
 use Rattle.rules.specs.Answer.{uncut, cutOff, answer, unchanged, commit}
 use Rattle.run_laws.specs.GuardPuts.{guards-zero, index-back, both-back}
-use Rattle.run_laws.specs.Outcome.{Struck, struck, Taken, neither, index, both, Stay, faulted, durable, Abort, unprepared, panicked, busy, conflict, unhealthy, Passed, Spoil, unremoved, unpublished, unrecycled, unfinished, afterStamp, aborting, worse, panics, abortingLate, bad, Outcome, done, stays, aborts, uninserted, uncalled, spoils, unstamped, outcome}
+use Rattle.run_laws.specs.Outcome.{Struck, struck, Taken, neither, index, both, Stay, faulted, durable, Abort, unprepared, panicked, busy}
+use Rattle.run_laws.specs.Outcome.{conflict, unhealthy, Passed, Spoil, unremoved, unpublished, unrecycled, unfinished, afterStamp, aborting, worse}
+use Rattle.run_laws.specs.Outcome.{panics, abortingLate, bad, Outcome, done, stays, aborts, uninserted, uncalled, spoils, unstamped, outcome}
 use Rattle.statements.specs.Words.{Admitted}
 
 module _ (S : Store) (x : Tx) (logged : Bool) (plan : Schedule) where
@@ -91,11 +95,13 @@ module _ {S : Store} {x : Tx} {logged : Bool} {plan : Schedule} (T : ℕ → Boo
   abort-either a b c d e (unhealthy h) false f = d
 
   pub abort-not : {kind failed : Fate → Refusal} {found preparing : Bool} → T 5 ≡ false → T 6 ≡ false → T 7 ≡ false → T 9 ≡ false → T 19 ≡ false
-      → Abort S x logged plan kind failed found preparing → T (numberOf (cond (aborting S x logged plan .failed) failed kind (fate (aborting S x logged plan .failed) true))) ≡ false
+      → Abort S x logged plan kind failed found preparing
+      → T (numberOf (cond (aborting S x logged plan .failed) failed kind (fate (aborting S x logged plan .failed) true))) ≡ false
   abort-not a b c d e k = abort-either a b c d e k (aborting S x logged plan .failed) (fate (aborting S x logged plan .failed) true)
 
   pub spoil-not : {n : ℕ} {made some finishing : List Put} {poisoning : Put} {kind : Fate → Refusal} {y : Tx} {drops : Bool}
-      → T 13 ≡ false → T 14 ≡ false → T 15 ≡ false → T 16 ≡ false → Spoil S x logged plan n made some poisoning finishing kind y drops → (f : Fate) → T (numberOf (kind f)) ≡ false
+      → T 13 ≡ false → T 14 ≡ false → T 15 ≡ false → T 16 ≡ false → Spoil S x logged plan n made some poisoning finishing kind y drops → (f : Fate)
+      → T (numberOf (kind f)) ≡ false
   spoil-not a b c d (unremoved h) f = a
   spoil-not a b c d (unpublished h) f = b
   spoil-not a b c d (unrecycled h) f = c
@@ -109,7 +115,9 @@ called-any T a b c false false f = a
 
 module _ (S : Store) (x : Tx) (logged : Bool) (plan : Schedule) where
   pub called-not : (T : ℕ → Bool) → T 11 ≡ false → T 12 ≡ false → T 19 ≡ false
-      → T (numberOf (cond (panics S x logged plan) CallbackPanicked (cond (bad S x logged plan) CleanupFailed CallbackFailed) (fate (worse S x logged plan || bad S x logged plan) (not (abortingLate S x logged plan .failed))))) ≡ false
+      → T (numberOf (cond (panics S x logged plan) CallbackPanicked (cond (bad S x logged plan) CleanupFailed CallbackFailed)
+      (fate (worse S x logged plan || bad S x logged plan) (not (abortingLate S x logged plan .failed)))))
+      ≡ false
   called-not T a b c = called-any T a b c (panics S x logged plan) (bad S x logged plan) _
 
   -- the end of a run that answers 0

@@ -31,7 +31,8 @@ freed-is [] S = refl
 freed-is (p ∷ ps) S = freed-is ps (apply (putFree p) S)
 
 -- a slot's value
-pub freed-value : (l : List ℕ) (T : Store) (q : ℕ) → memb q l ≡ false → let D = applyAll (map putFree l) T in valueAt (D .key) (D .has) q ≡ valueAt (T .key) (T .has) q
+pub freed-value : (l : List ℕ) (T : Store) (q : ℕ) → memb q l ≡ false
+    → let D = applyAll (map putFree l) T in valueAt (D .key) (D .has) q ≡ valueAt (T .key) (T .has) q
 freed-value l T q n = rw (freed-is l T, set-all-else 0 l (T .key) 0 q n, set-all-else false l (T .has) false q n)
 
 -- neither side of a write is among the freed slots
@@ -39,10 +40,12 @@ abbrev pub Spared : List ℕ → Write → Type 0
 Spared l w = (memb (w .base .0) l ≡ false) × (memb (w .new .0) l ≡ false)
 
 -- the changes of such writes
-pub freed-changes : (l : List ℕ) (T : Store) (ws : List Write) → Each (Spared l) ws → let D = applyAll (map putFree l) T in indexChanges (D .key) (D .has) ws ≡ indexChanges (T .key) (T .has) ws
+pub freed-changes : (l : List ℕ) (T : Store) (ws : List Write) → Each (Spared l) ws
+    → let D = applyAll (map putFree l) T in indexChanges (D .key) (D .has) ws ≡ indexChanges (T .key) (T .has) ws
 unfolding indexChanges
 freed-changes l T ws E = ap (λ (cs : List Change). those (λ c. not (sameValue (c .before) (c .after))) cs) (each ws E)
   where
-    each : (ws : List Write) → Each (Spared l) ws → let D = applyAll (map putFree l) T in map (changeOf (D .key) (D .has)) ws ≡ map (changeOf (T .key) (T .has)) ws
+    each : (ws : List Write) → Each (Spared l) ws
+        → let D = applyAll (map putFree l) T in map (changeOf (D .key) (D .has)) ws ≡ map (changeOf (T .key) (T .has)) ws
     each [] E = refl
     each (w ∷ ws) E = rw (freed-value l T (w .base .0) (E .0 .0), freed-value l T (w .new .0) (E .0 .1), each ws (E .1))

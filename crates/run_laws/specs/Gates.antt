@@ -6,15 +6,21 @@ use mathlib.Core.List.{List, [], _∷_, _++_, append-assoc, append-nil}
 use Prim.Native.Nat.{ℕ, suc, _+_}
 use native.Mathlib.Nat.{add-zero, add-suc, suc-add, zero-add}
 use lib.ListN.{take}
-use Rattle.rules.specs.Types.{Store, Tx, Schedule, Fate, Open, Undone, Standing, Refusal, StepFailed, PrepareFailed, PreparePanicked, Conflict, BoundDurably, FoundPoisoned, InsertFailed, CallbackFailed, CallbackPanicked, RemoveFailed, PublishFailed, RecycleFailed, FinishFailed, StampFailed, CleanupFailed}
+use Rattle.rules.specs.Types.{Store, Tx, Schedule, Fate, Open, Undone, Standing, Refusal, StepFailed, PrepareFailed, PreparePanicked}
+use Rattle.rules.specs.Types.{Conflict, BoundDurably, FoundPoisoned, InsertFailed, CallbackFailed, CallbackPanicked, RemoveFailed}
+use Rattle.rules.specs.Types.{PublishFailed, RecycleFailed, FinishFailed, StampFailed, CleanupFailed}
 use Rattle.rules.specs.Transaction.{noWrites, noAccesses, emptied}
 use Rattle.rules.specs.Faults.{B, P}
 use Rattle.rules.specs.Numbers.{fate}
 use Rattle.rules.specs.Puts.{Put, putPoison, putDoom}
 use Rattle.rules.specs.Tests.{indexReadConflict, rowLockConflict, serializationConflict, writeBaseConflict}
 use Rattle.rules.specs.Changes.{indexGuards, release, insertions, removals, publication, recycling, stamping}
-use Rattle.rules.specs.Commit.{End, ending, Step, goes, ends, stopIf, strikes, fails, count, unloggedWrites, finish, indexChangesMade, indexLockKeys, prepareCommitRecord, runPrepare, acquireIndexLocks, acquirePartitionLocks, ensureUnloggedWriteAllowed, checkNotPoisoned, prepareIndexDestinations, invokeBeforePublish, removeIndexSources, publishWriteSet, recycleNonFinalWrites, finishTransaction, publishIndexStamps, steps, Run, run, committed, runOf}
-use Rattle.run_laws.specs.Outcome.{guardsTaken, afterInsert, afterRemove, afterPublish, afterRecycle, afterFinish, afterStamp, aborting, rollingBack, worse, panics, undoing, abortingLate, bad}
+use Rattle.rules.specs.Commit.{End, ending, Step, goes, ends, stopIf, strikes, fails, count, unloggedWrites, finish, indexChangesMade}
+use Rattle.rules.specs.Commit.{indexLockKeys, prepareCommitRecord, runPrepare, acquireIndexLocks, acquirePartitionLocks}
+use Rattle.rules.specs.Commit.{ensureUnloggedWriteAllowed, checkNotPoisoned, prepareIndexDestinations, invokeBeforePublish, removeIndexSources}
+use Rattle.rules.specs.Commit.{publishWriteSet, recycleNonFinalWrites, finishTransaction, publishIndexStamps, steps, Run, run, committed, runOf}
+use Rattle.run_laws.specs.Outcome.{guardsTaken, afterInsert, afterRemove, afterPublish, afterRecycle, afterFinish}
+use Rattle.run_laws.specs.Outcome.{afterStamp, aborting, rollingBack, worse, panics, undoing, abortingLate, bad}
 
 pub record Gate : Type 0 where
   pub when : Bool
@@ -39,11 +45,13 @@ over {e} {n} {made} = record { are = rw (add-zero n, append-nil made) }
 skip : {e : End} {n : ℕ} {made : List Put} {ss : List Step} {gs : List Gate} {r : Run} → Gated e (suc n) made ss gs r → Gated e n made (goes [] ∷ ss) gs r
 skip {e} {n} {made} {ss} h = record { are = rw (add-suc n (run e ss .passed), ← suc-add n (run e ss .passed)) (h .are) }
 
-go : {e : End} {n : ℕ} {made : List Put} (ps : List Put) {ss : List Step} {gs : List Gate} {r : Run} → Gated e (suc n) (made ++ ps) ss gs r → Gated e n made (goes ps ∷ ss) gs r
+go : {e : End} {n : ℕ} {made : List Put} (ps : List Put) {ss : List Step} {gs : List Gate} {r : Run} → Gated e (suc n) (made ++ ps) ss gs r
+    → Gated e n made (goes ps ∷ ss) gs r
 go {e} {n} {made} ps {ss} h =
     record { are = rw (add-suc n (run e ss .passed), ← suc-add n (run e ss .passed), ← append-assoc made ps (run e ss .puts)) (h .are) }
 
-gate : (b : Bool) {e : End} {n : ℕ} {made : List Put} (ps : List Put) (d : End) {t : Step} {ss : List Step} {gs : List Gate} {r : Run} → Gated e n made (t ∷ ss) gs r
+gate : (b : Bool) {e : End} {n : ℕ} {made : List Put} (ps : List Put) (d : End) {t : Step} {ss : List Step} {gs : List Gate} {r : Run}
+    → Gated e n made (t ∷ ss) gs r
     → Gated e n made (stopIf b (ends ps d) t ∷ ss) (record { when = b; then = record { passed = n; puts = made ++ ps; end = d } } ∷ gs) r
 unfolding stopIf
 gate true {n = n} ps d h = record { are = rw (add-zero n) }
@@ -60,7 +68,14 @@ module _ (S : Store) (x : Tx) (logged : Bool) (plan : Schedule) where
   abbrev pub abortEnd : (Fate → Refusal) → (Fate → Refusal) → Bool → Bool → End
   abortEnd kind failed found preparing =
       let a = aborting S x logged plan in
-      record { refusal = cond (a .failed) failed kind (fate (a .failed) true); tx = a .tx; poisoned = found || a .failed; cleanup = preparing && a .failed; undone = false; dropped = false }
+      record {
+        refusal = cond (a .failed) failed kind (fate (a .failed) true);
+        tx = a .tx;
+        poisoned = found || a .failed;
+        cleanup = preparing && a .failed;
+        undone = false;
+        dropped = false;
+      }
 
   abbrev pub spoilEnd : (Fate → Refusal) → Tx → Bool → End
   spoilEnd kind y drops = record { refusal = kind Undone; tx = y; poisoned = true; cleanup = false; undone = false; dropped = drops }
@@ -68,7 +83,16 @@ module _ (S : Store) (x : Tx) (logged : Bool) (plan : Schedule) where
   abbrev pub callEnd : End
   callEnd =
       let a = abortingLate S x logged plan in
-      record { refusal = cond (panics S x logged plan) CallbackPanicked (cond (bad S x logged plan) CleanupFailed CallbackFailed) (fate (worse S x logged plan || bad S x logged plan) (not (a .failed))); tx = a .tx; poisoned = worse S x logged plan || bad S x logged plan; cleanup = false; undone = not (undoing S x logged plan .failed); dropped = false }
+      record {
+        refusal =
+            cond (panics S x logged plan) CallbackPanicked (cond (bad S x logged plan) CleanupFailed CallbackFailed)
+            (fate (worse S x logged plan || bad S x logged plan) (not (a .failed)));
+        tx = a .tx;
+        poisoned = worse S x logged plan || bad S x logged plan;
+        cleanup = false;
+        undone = not (undoing S x logged plan .failed);
+        dropped = false;
+      }
 
   abbrev pub taking : List Put
   taking = indexGuards S x (x .txid .0)
@@ -88,11 +112,16 @@ module _ (S : Store) (x : Tx) (logged : Bool) (plan : Schedule) where
   -- gates 20 to 26: from step 15 on the stores to undo are made
   abbrev pub lateGates : List Gate
   lateGates =
-      at (hit 15) 14 (guardsTaken S x logged plan ++ (part 15 (insertions S x) ++ (rollingBack S x logged plan .puts ++ leaving))) (ending (InsertFailed (fate (rollingBack S x logged plan .failed) false)) x (rollingBack S x logged plan .failed))
-      ∷ at (logged && (hit 16 || (worse S x logged plan || panics S x logged plan))) 15 (afterInsert S x logged plan ++ (cond (worse S x logged plan) (putPoison ∷ []) [] ++ (undoing S x logged plan .puts ++ (abortingLate S x logged plan .puts ++ leaving)))) callEnd
+      at (hit 15) 14 (guardsTaken S x logged plan ++ (part 15 (insertions S x) ++ (rollingBack S x logged plan .puts ++ leaving)))
+      (ending (InsertFailed (fate (rollingBack S x logged plan .failed) false)) x (rollingBack S x logged plan .failed))
+      ∷ at (logged && (hit 16 || (worse S x logged plan || panics S x logged plan))) 15
+      (afterInsert S x logged plan
+      ++ (cond (worse S x logged plan) (putPoison ∷ []) [] ++ (undoing S x logged plan .puts ++ (abortingLate S x logged plan .puts ++ leaving)))) callEnd
       ∷ at (hit 17) 16 (afterInsert S x logged plan ++ (part 17 (removals S x) ++ putPoison ∷ [] ++ leaving)) (spoilEnd RemoveFailed x false)
-      ∷ at (hit 18) 17 (afterRemove S x logged plan ++ (part 18 (publication x) ++ putDoom (x .txid .0) ∷ finish S x logged plan ++ leaving)) (spoilEnd PublishFailed (noAccesses x) (not (hit 21)))
-      ∷ at (hit 19) 18 (afterPublish S x logged plan ++ (part 19 (recycling S x) ++ putDoom (x .txid .0) ∷ finish S x logged plan ++ leaving)) (spoilEnd RecycleFailed (noWrites x) (not (hit 21)))
+      ∷ at (hit 18) 17 (afterRemove S x logged plan ++ (part 18 (publication x) ++ putDoom (x .txid .0) ∷ finish S x logged plan ++ leaving))
+      (spoilEnd PublishFailed (noAccesses x) (not (hit 21)))
+      ∷ at (hit 19) 18 (afterPublish S x logged plan ++ (part 19 (recycling S x) ++ putDoom (x .txid .0) ∷ finish S x logged plan ++ leaving))
+      (spoilEnd RecycleFailed (noWrites x) (not (hit 21)))
       ∷ at (hit 21) 20 (afterRecycle S x logged plan ++ ([] ++ putDoom (x .txid .0) ∷ [] ++ leaving)) (spoilEnd FinishFailed (emptied x) false)
       ∷ at (hit 22) 21 (afterFinish S x logged plan ++ (part 22 (stamping S x) ++ putPoison ∷ leaving)) (ending (StampFailed Standing) (emptied x) true)
       ∷ []
@@ -127,7 +156,9 @@ module _ (S : Store) (x : Tx) (logged : Bool) (plan : Schedule) where
   clean = record { passed = 23; puts = afterStamp S x logged plan ++ leaving; end = committed x }
 
   gated : Gated (committed x) 0 [] (steps S x logged plan) gates clean
-  unfolding gates steps indexChangesMade indexLockKeys prepareCommitRecord runPrepare acquireIndexLocks acquirePartitionLocks ensureUnloggedWriteAllowed checkNotPoisoned prepareIndexDestinations invokeBeforePublish removeIndexSources publishWriteSet recycleNonFinalWrites finishTransaction publishIndexStamps
+  unfolding gates steps indexChangesMade indexLockKeys prepareCommitRecord runPrepare acquireIndexLocks acquirePartitionLocks
+      ensureUnloggedWriteAllowed checkNotPoisoned prepareIndexDestinations invokeBeforePublish removeIndexSources publishWriteSet
+      recycleNonFinalWrites finishTransaction publishIndexStamps
   gated =
       skip (skip (gate _ _ _ (skip (gate _ _ _ (skip (gate _ _ _ (skip (gate _ _ _ (gate _ _ _ (skip (
       gate _ _ _ (gate _ _ _ (go _ (gate _ _ _ (gate _ _ _ (go _ (gate _ _ _ (gate _ _ _ (skip (gate _ _ _ (skip (

@@ -8,8 +8,10 @@ use Rattle.rules.specs.Types.{Store, Tx, Schedule, Write}
 use Rattle.basic_laws.specs.Cases.{by}
 use Rattle.rules.specs.Lists.{flat, memb}
 use Rattle.rules.specs.Transaction.{finals}
-use Rattle.rules.specs.Puts.{kStripe, kPartition, kInsert, kRemove, kXmax, kHead, kFree, kDrop, kStamp, kPoison, putStripe, putPartition, putInsert, putRemove, putFree, putDrop, putStamp, putPoison, ownSlots, abortPuts}
-use Rattle.rules.specs.Changes.{changes, destinations, sources, changedStripes, guardedStripes, guardedPartitions, indexGuards, partitionGuards, release, publishOne, insertions, removals, publication, recycled, recycling, stamping}
+use Rattle.rules.specs.Puts.{kStripe, kPartition, kInsert, kRemove, kXmax, kHead, kFree, kDrop, kStamp, kPoison, putStripe}
+use Rattle.rules.specs.Puts.{putPartition, putInsert, putRemove, putFree, putDrop, putStamp, putPoison, ownSlots, abortPuts}
+use Rattle.rules.specs.Changes.{changes, destinations, sources, changedStripes, guardedStripes, guardedPartitions, indexGuards}
+use Rattle.rules.specs.Changes.{partitionGuards, release, publishOne, insertions, removals, publication, recycled, recycling, stamping}
 use Rattle.rules.specs.Commit.{poison, fails, count, finish, rollback, abortOrPoison}
 use Rattle.run_laws.specs.OnlyKinds.{only, only-both, only-map, only-take, only-if}
 use Rattle.run_laws.specs.Outcome.{guardsTaken}
@@ -39,7 +41,8 @@ module _ (ks : List ℕ) where
     partition-kind v = only-map ks (λ i. putPartition i v) (guardedPartitions x) (λ i. q)
 
     pub taken-kinds : (logged : Bool) (plan : Schedule) → only ks (guardsTaken S x logged plan) ≡ true
-    taken-kinds logged plan = only-both ks (indexGuards S x (x .txid .0)) (partitionGuards x (x .txid .0)) (index-kind (x .txid .0)) (partition-kind (x .txid .0))
+    taken-kinds logged plan =
+        only-both ks (indexGuards S x (x .txid .0)) (partitionGuards x (x .txid .0)) (index-kind (x .txid .0)) (partition-kind (x .txid .0))
 
     pub release-kinds : only ks (release S x) ≡ true
     unfolding release
@@ -49,7 +52,8 @@ module _ (ks : List ℕ) where
   publish-kinds : memb kXmax ks ≡ true → memb kHead ks ≡ true → (t : ℕ) (ws : List Write) → only ks (flat (publishOne t) ws) ≡ true
   publish-kinds m h t ws =
       let own = kXmax ∷ kHead ∷ [] in
-      all-then (λ p. memb (p .kind) own) (λ p. memb (p .kind) ks) (λ p e. all-mem (λ k. memb k ks) own (rw (m, h)) (p .kind) e) (flat (publishOne t) ws) (publish-only t ws)
+      all-then (λ p. memb (p .kind) own) (λ p. memb (p .kind) ks) (λ p e. all-mem (λ k. memb k ks) own (rw (m, h)) (p .kind) e)
+      (flat (publishOne t) ws) (publish-only t ws)
 
   -- the steps' lists
   module _ (S : Store) (x : Tx) where
@@ -85,7 +89,8 @@ module _ (ks : List ℕ) where
 
   -- cleaning up
   module _ (S : Store) (x : Tx) (logged : Bool) (plan : Schedule) where
-    pub cleaning-kinds : memb kFree ks ≡ true → memb kDrop ks ≡ true → memb kPoison ks ≡ true → (b : Bool) → only ks (abortOrPoison S x logged plan b .puts) ≡ true
+    pub cleaning-kinds : memb kFree ks ≡ true → memb kDrop ks ≡ true → memb kPoison ks ≡ true → (b : Bool)
+        → only ks (abortOrPoison S x logged plan b .puts) ≡ true
     unfolding abortOrPoison
     cleaning-kinds f d p b = by (fails S x logged plan 23) (λ e. rw e (poison-kind p b)) (λ e. rw e (abort-kinds f d S (x .txid .0)))
 

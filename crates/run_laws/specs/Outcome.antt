@@ -7,7 +7,9 @@ use Prim.Native.Nat.{ℕ, suc, _+_}
 use native.Mathlib.Nat.{add-zero, add-suc, suc-add, zero-add}
 use lib.ListN.{take}
 use lib.Dec.{eqb, leb}
-use Rattle.rules.specs.Types.{Store, Tx, Schedule, Fate, Open, Standing, Undone, Refusal, StepFailed, PrepareFailed, PreparePanicked, Conflict, BoundDurably, FoundPoisoned, InsertFailed, CallbackFailed, CallbackPanicked, RemoveFailed, PublishFailed, RecycleFailed, FinishFailed, StampFailed, CleanupFailed}
+use Rattle.rules.specs.Types.{Store, Tx, Schedule, Fate, Open, Standing, Undone, Refusal, StepFailed, PrepareFailed, PreparePanicked}
+use Rattle.rules.specs.Types.{Conflict, BoundDurably, FoundPoisoned, InsertFailed, CallbackFailed, CallbackPanicked, RemoveFailed}
+use Rattle.rules.specs.Types.{PublishFailed, RecycleFailed, FinishFailed, StampFailed, CleanupFailed}
 use Rattle.basic_laws.specs.Cases.{clash, by, and-true, or-false}
 use Rattle.rules.specs.Transaction.{noWrites, noAccesses, emptied}
 use Rattle.rules.specs.Faults.{F, B, P, X, Q}
@@ -15,7 +17,10 @@ use Rattle.rules.specs.Numbers.{fate}
 use Rattle.rules.specs.Puts.{Put, putDrop, putPoison, putDoom}
 use Rattle.rules.specs.Tests.{indexReadConflict, rowLockConflict, serializationConflict, writeBaseConflict, conflicting}
 use Rattle.rules.specs.Changes.{changes, destinations, indexGuards, partitionGuards, release, insertions, removals, publication, recycling, stamping}
-use Rattle.rules.specs.Commit.{End, ending, Step, goes, ends, stopIf, Clean, strikes, fails, count, abortOrPoison, rollback, unloggedWrites, finish, indexChangesMade, indexLockKeys, prepareCommitRecord, runPrepare, acquireIndexLocks, acquirePartitionLocks, ensureUnloggedWriteAllowed, checkNotPoisoned, prepareIndexDestinations, invokeBeforePublish, removeIndexSources, publishWriteSet, recycleNonFinalWrites, finishTransaction, publishIndexStamps, steps, run, committed, runOf}
+use Rattle.rules.specs.Commit.{End, ending, Step, goes, ends, stopIf, Clean, strikes, fails, count, abortOrPoison, rollback, unloggedWrites}
+use Rattle.rules.specs.Commit.{finish, indexChangesMade, indexLockKeys, prepareCommitRecord, runPrepare, acquireIndexLocks, acquirePartitionLocks}
+use Rattle.rules.specs.Commit.{ensureUnloggedWriteAllowed, checkNotPoisoned, prepareIndexDestinations, invokeBeforePublish, removeIndexSources}
+use Rattle.rules.specs.Commit.{publishWriteSet, recycleNonFinalWrites, finishTransaction, publishIndexStamps, steps, run, committed, runOf}
 
 -- after n steps and the stores `made`, the steps end as Q says
 pub data Follows (Q : ℕ → List Put → End → Type 0) (e : End) : ℕ → List Put → List Step → Type 0 where
@@ -104,8 +109,12 @@ module _ (S : Store) (x : Tx) (logged : Bool) (plan : Schedule) where
   -- 13 to 16: the steps passed, their stores, the stores of the step that failed, the poison, the finish, the number, the transaction left
   pub data Spoil : ℕ → List Put → List Put → Put → List Put → (Fate → Refusal) → Tx → Bool → Type 0 where
     unremoved : Struck → Spoil 16 afterInsert (take (count S x logged plan 17) (removals S x)) putPoison [] RemoveFailed x false
-    unpublished : Struck → Spoil 17 afterRemove (take (count S x logged plan 18) (publication x)) (putDoom t) (finish S x logged plan) PublishFailed (noAccesses x) (not (fails S x logged plan 21))
-    unrecycled : Struck → Spoil 18 afterPublish (take (count S x logged plan 19) (recycling S x)) (putDoom t) (finish S x logged plan) RecycleFailed (noWrites x) (not (fails S x logged plan 21))
+    unpublished : Struck
+        → Spoil 17 afterRemove (take (count S x logged plan 18) (publication x)) (putDoom t) (finish S x logged plan) PublishFailed
+        (noAccesses x) (not (fails S x logged plan 21))
+    unrecycled : Struck
+        → Spoil 18 afterPublish (take (count S x logged plan 19) (recycling S x)) (putDoom t) (finish S x logged plan) RecycleFailed (noWrites x)
+        (not (fails S x logged plan 21))
     unfinished : Struck → Spoil 20 afterRecycle [] (putDoom t) [] FinishFailed (emptied x) false
 
   -- the abort of 5, 6, 7, 9; the rollback of 10; the rollback and the abort of 11 and 12
@@ -134,16 +143,35 @@ module _ (S : Store) (x : Tx) (logged : Bool) (plan : Schedule) where
     done : Passed → Outcome 23 (afterStamp ++ release S x) (committed x)
     stays : {n : ℕ} {taken back : List Put} {kind : Fate → Refusal} → leb 14 n ≡ false → Taken taken back → Stay kind
         → Outcome n (taken ++ back) (ending (kind Open) x false)
-    aborts : {n : ℕ} {taken back : List Put} {kind failed : Fate → Refusal} {found preparing : Bool} → leb 14 n ≡ false → Taken taken back → Abort kind failed found preparing
-        → Outcome n (taken ++ (back ++ aborting .puts)) (record { refusal = cond (aborting .failed) failed kind (fate (aborting .failed) true); tx = aborting .tx; poisoned = found || aborting .failed; cleanup = preparing && aborting .failed; undone = false; dropped = false })
+    aborts : {n : ℕ} {taken back : List Put} {kind failed : Fate → Refusal} {found preparing : Bool} → leb 14 n ≡ false → Taken taken back
+        → Abort kind failed found preparing
+        → Outcome n (taken ++ (back ++ aborting .puts)) (record {
+          refusal = cond (aborting .failed) failed kind (fate (aborting .failed) true);
+          tx = aborting .tx;
+          poisoned = found || aborting .failed;
+          cleanup = preparing && aborting .failed;
+          undone = false;
+          dropped = false;
+        })
     uninserted : Passed → Struck
-        → Outcome 14 (guardsTaken ++ (take (count S x logged plan 15) (insertions S x) ++ (rollingBack .puts ++ release S x))) (ending (InsertFailed (fate (rollingBack .failed) false)) x (rollingBack .failed))
+        → Outcome 14 (guardsTaken ++ (take (count S x logged plan 15) (insertions S x) ++ (rollingBack .puts ++ release S x)))
+        (ending (InsertFailed (fate (rollingBack .failed) false)) x (rollingBack .failed))
     uncalled : Passed → logged ≡ true → Struck
-        → Outcome 15 (afterInsert ++ (cond worse (putPoison ∷ []) [] ++ (undoing .puts ++ (abortingLate .puts ++ release S x)))) (record { refusal = cond panics CallbackPanicked (cond bad CleanupFailed CallbackFailed) (fate (worse || bad) (not (abortingLate .failed))); tx = abortingLate .tx; poisoned = worse || bad; cleanup = false; undone = not (undoing .failed); dropped = false })
-    spoils : {n : ℕ} {made some finishing : List Put} {poisoning : Put} {kind : Fate → Refusal} {y : Tx} {drops : Bool} → Passed → Spoil n made some poisoning finishing kind y drops
-        → Outcome n (made ++ (some ++ poisoning ∷ finishing ++ release S x)) (record { refusal = kind Undone; tx = y; poisoned = true; cleanup = false; undone = false; dropped = drops })
+        → Outcome 15 (afterInsert ++ (cond worse (putPoison ∷ []) [] ++ (undoing .puts ++ (abortingLate .puts ++ release S x)))) (record {
+          refusal = cond panics CallbackPanicked (cond bad CleanupFailed CallbackFailed) (fate (worse || bad) (not (abortingLate .failed)));
+          tx = abortingLate .tx;
+          poisoned = worse || bad;
+          cleanup = false;
+          undone = not (undoing .failed);
+          dropped = false;
+        })
+    spoils : {n : ℕ} {made some finishing : List Put} {poisoning : Put} {kind : Fate → Refusal} {y : Tx} {drops : Bool} → Passed
+        → Spoil n made some poisoning finishing kind y drops
+        → Outcome n (made ++ (some ++ poisoning ∷ finishing ++ release S x))
+        (record { refusal = kind Undone; tx = y; poisoned = true; cleanup = false; undone = false; dropped = drops })
     unstamped : Passed → Struck
-        → Outcome 21 (afterFinish ++ (take (count S x logged plan 22) (stamping S x) ++ putPoison ∷ release S x)) (ending (StampFailed Standing) (emptied x) true)
+        → Outcome 21 (afterFinish ++ (take (count S x logged plan 22) (stamping S x) ++ putPoison ∷ release S x))
+        (ending (StampFailed Standing) (emptied x) true)
 
   called : (logged && (fails S x logged plan 16 || (worse || panics))) ≡ true → (logged ≡ true) × Struck
   called h =
@@ -157,7 +185,8 @@ module _ (S : Store) (x : Tx) (logged : Bool) (plan : Schedule) where
 
   -- steps 15 on
   from-15 : Passed → Follows Outcome (committed x) 14 guardsTaken
-      (prepareIndexDestinations S x logged plan ∷ invokeBeforePublish S x logged plan ∷ removeIndexSources S x logged plan ∷ publishWriteSet S x logged plan ∷ recycleNonFinalWrites S x logged plan ∷ goes [] ∷ finishTransaction S x logged plan ∷ publishIndexStamps S x logged plan ∷ goes (release S x) ∷ [])
+      (prepareIndexDestinations S x logged plan ∷ invokeBeforePublish S x logged plan ∷ removeIndexSources S x logged plan ∷ publishWriteSet S x logged plan
+      ∷ recycleNonFinalWrites S x logged plan ∷ goes [] ∷ finishTransaction S x logged plan ∷ publishIndexStamps S x logged plan ∷ goes (release S x) ∷ [])
   unfolding prepareIndexDestinations invokeBeforePublish removeIndexSources publishWriteSet recycleNonFinalWrites finishTransaction publishIndexStamps
   from-15 ok =
       follows-if _ (λ h. stop (uninserted ok (struck 15 F refl h))) (λ _. go (
@@ -170,7 +199,8 @@ module _ (S : Store) (x : Tx) (logged : Bool) (plan : Schedule) where
       go (over (done ok)))))))))))))))))
 
   outcomes : Follows Outcome (committed x) 0 [] (steps S x logged plan)
-  unfolding steps indexChangesMade indexLockKeys prepareCommitRecord runPrepare acquireIndexLocks acquirePartitionLocks ensureUnloggedWriteAllowed checkNotPoisoned
+  unfolding steps indexChangesMade indexLockKeys prepareCommitRecord runPrepare acquireIndexLocks acquirePartitionLocks
+      ensureUnloggedWriteAllowed checkNotPoisoned
   outcomes =
       let L = logged in
       skip (skip (
@@ -194,7 +224,11 @@ module _ (S : Store) (x : Tx) (logged : Bool) (plan : Schedule) where
       follows-if (serializationConflict S x) (λ h. stop (aborts refl both (conflict (rw (t11, t12, h))))) (λ t13. skip (
       follows-if _ (λ h. stop (stays refl both (faulted (struck 14 F refl h)))) (λ _.
       follows-if (writeBaseConflict S x) (λ h. stop (aborts refl both (conflict (rw (t11, t12, t13, h))))) (λ t14. skip (
-      from-15 (record { allowed = free; healthy = or-false (fails S x L plan 10) (S .poisoned) sound .1; agreed = rw (t11, t12, t13, t14) })))))))))))))))))))))))))))))))))))
+      from-15 (record {
+        allowed = free;
+        healthy = or-false (fails S x L plan 10) (S .poisoned) sound .1;
+        agreed = rw (t11, t12, t13, t14);
+      })))))))))))))))))))))))))))))))))))
 
   -- every run ends in one of these ways
   pub outcome : let r = runOf S x logged plan in Outcome (r .passed) (r .puts) (r .end)

@@ -70,7 +70,8 @@ new-cases (w ∷ ws) L q x n =
 
 module _ (next : List ℕ) where
   -- one write published
-  push-chains : (heads : List ℕ) (L : ℕ → List ℕ) (w : Write) → Chains heads next L → Ready heads next L w → Chains (set heads (w .row .0) (w .new .0)) next (push L (w .row .0) (w .new .0))
+  push-chains : (heads : List ℕ) (L : ℕ → List ℕ) (w : Write) → Chains heads next L → Ready heads next L w
+      → Chains (set heads (w .row .0) (w .new .0)) next (push L (w .row .0) (w .new .0))
   push-chains heads L w C R =
       let r = w .row .0 in
       let n = w .new .0 in
@@ -82,14 +83,16 @@ module _ (next : List ℕ) where
         apart = λ p q x lp lq mp mq. join p q x (rw length-set at lp) (rw length-set at lq) (push-cases L r n p x mp) (push-cases L r n q x mq);
       }
     where
-      join : (p q x : ℕ) → p < length heads → q < length heads → ((p ≡ w .row .0) × (x ≡ w .new .0)) ⊎ (memb x (L p) ≡ true) → ((q ≡ w .row .0) × (x ≡ w .new .0)) ⊎ (memb x (L q) ≡ true) → p ≡ q
+      join : (p q x : ℕ) → p < length heads → q < length heads → ((p ≡ w .row .0) × (x ≡ w .new .0)) ⊎ (memb x (L p) ≡ true)
+          → ((q ≡ w .row .0) × (x ≡ w .new .0)) ⊎ (memb x (L q) ≡ true) → p ≡ q
       join p q x lp lq (inl a) (inl b) = a .0 ∙ sym (b .0)
       join p q x lp lq (inl a) (inr b) = clash (rw (a .1) at b) (R .off q lq)
       join p q x lp lq (inr a) (inl b) = clash (rw (b .1) at a) (R .off p lp)
       join p q x lp lq (inr a) (inr b) = C .apart p q x lp lq a b
 
   -- another write can still be published
-  push-ready : (heads : List ℕ) (L : ℕ → List ℕ) (w v : Write) → differs w v ≡ true → Ready heads next L v → Ready (set heads (w .row .0) (w .new .0)) next (push L (w .row .0) (w .new .0)) v
+  push-ready : (heads : List ℕ) (L : ℕ → List ℕ) (w v : Write) → differs w v ≡ true → Ready heads next L v
+      → Ready (set heads (w .row .0) (w .new .0)) next (push L (w .row .0) (w .new .0)) v
   push-ready heads L w v d R =
       let a = and-true (not (sameRow w v)) (not (sameNew w v)) d in
       record {
@@ -114,11 +117,13 @@ module _ (next : List ℕ) where
       (push-ready heads L w v (a .0) (R .0), each-ready heads L w ws (a .1) (R .1))
 
   -- all of them published
-  pub publish-chains : (ws : List Write) (heads : List ℕ) (L : ℕ → List ℕ) → distinct ws ≡ true → Each (Ready heads next L) ws → Chains heads next L → Chains (newHeads ws heads) next (newChains ws L)
+  pub publish-chains : (ws : List Write) (heads : List ℕ) (L : ℕ → List ℕ) → distinct ws ≡ true → Each (Ready heads next L) ws → Chains heads next L
+      → Chains (newHeads ws heads) next (newChains ws L)
   publish-chains [] heads L d R C = C
   publish-chains (w ∷ ws) heads L d R C =
       let a = and-true (all (differs w) ws) (distinct ws) d in
-      publish-chains ws (set heads (w .row .0) (w .new .0)) (push L (w .row .0) (w .new .0)) (a .1) (each-ready heads L w ws (a .0) (R .1)) (push-chains heads L w C (R .0))
+      publish-chains ws (set heads (w .row .0) (w .new .0)) (push L (w .row .0) (w .new .0)) (a .1) (each-ready heads L w ws (a .0) (R .1))
+      (push-chains heads L w C (R .0))
 
 -- publication puts xmax and heads alone
 pub publish-only : (t : ℕ) (ws : List Write) → only (kXmax ∷ kHead ∷ []) (flat (publishOne t) ws) ≡ true

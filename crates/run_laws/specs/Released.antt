@@ -11,13 +11,16 @@ use Rattle.rules.specs.Types.{Store, Tx, Write, Schedule, Cut, Fate, Refusal}
 use Rattle.rules.specs.Transaction.{finals}
 use Rattle.rules.specs.Admitted.{resting}
 use Rattle.rules.specs.Numbers.{numberOf}
-use Rattle.rules.specs.Puts.{Put, kStripe, kPartition, kInsert, kRemove, kXmax, kHead, kFree, kDrop, kStamp, kPoison, kDoom, sets, putInsert, putRemove, putXmax, putHead, putFree, putDrop, putStamp, putPoison, putDoom, applyAll, ownSlots, abortPuts}
-use Rattle.rules.specs.Changes.{changes, destinations, sources, changedStripes, recycled, publishOne, release, insertions, removals, publication, recycling, stamping}
+use Rattle.rules.specs.Puts.{Put, kStripe, kPartition, kInsert, kRemove, kXmax, kHead, kFree, kDrop, kStamp, kPoison, kDoom, sets, putInsert}
+use Rattle.rules.specs.Puts.{putRemove, putXmax, putHead, putFree, putDrop, putStamp, putPoison, putDoom, applyAll, ownSlots, abortPuts}
+use Rattle.rules.specs.Changes.{changes, destinations, sources, changedStripes, recycled, publishOne}
+use Rattle.rules.specs.Changes.{release, insertions, removals, publication, recycling, stamping}
 use Rattle.rules.specs.Commit.{End, poison, fails, count, finish, abortOrPoison, rollback}
 use Rattle.rules.specs.Answer.{uncut, commit}
 use Rattle.run_laws.specs.OnlyKinds.{only, only-both, only-map, only-take, only-if, kept, is-not}
 use Rattle.run_laws.specs.GuardPuts.{applyAll-append, guards-zero, both-back}
-use Rattle.run_laws.specs.Outcome.{guardsTaken, aborting, worse, undoing, Spoil, unremoved, unpublished, unrecycled, unfinished, Outcome, done, stays, aborts, uninserted, uncalled, spoils, unstamped, outcome}
+use Rattle.run_laws.specs.Outcome.{guardsTaken, aborting, worse, undoing, Spoil, unremoved, unpublished, unrecycled}
+use Rattle.run_laws.specs.Outcome.{unfinished, Outcome, done, stays, aborts, uninserted, uncalled, spoils, unstamped, outcome}
 use Rattle.statements.specs.Words.{Admitted}
 use Rattle.run_laws.specs.FirstRows.{whole, given-back}
 
@@ -84,7 +87,11 @@ module _ (S : Store) (x : Tx) (logged : Bool) (plan : Schedule) where
   unfolding abortOrPoison abortPuts
   aborted b = by (fails S x logged plan 23)
       (λ e. rw e (poisoning b))
-      (λ e. rw e (record { spares = only-both unguarded (map putFree (ownSlots (S .heads) (S .next) (S .xmin) (x .txid .0))) (putDrop (x .txid .0) ∷ []) (only-map unguarded putFree (ownSlots (S .heads) (S .next) (S .xmin) (x .txid .0)) (λ p. refl)) refl }))
+      (λ e. rw e (record {
+        spares =
+            only-both unguarded (map putFree (ownSlots (S .heads) (S .next) (S .xmin) (x .txid .0))) (putDrop (x .txid .0) ∷ [])
+            (only-map unguarded putFree (ownSlots (S .heads) (S .next) (S .xmin) (x .txid .0)) (λ p. refl)) refl;
+      }))
 
   rolled : (b : Bool) (made : List ℕ) → Guardless (rollback S x logged plan b made .puts)
   unfolding rollback
@@ -92,7 +99,11 @@ module _ (S : Store) (x : Tx) (logged : Bool) (plan : Schedule) where
       let back = only-map unguarded putRemove (reverse made) (λ c. refl) in
       let n = count S x logged plan 24 in
       by (fails S x logged plan 24)
-      (λ e. rw e (record { spares = only-both unguarded (take n (map putRemove (reverse made))) (poison b) (only-take unguarded n (map putRemove (reverse made)) back) (poisoning b .spares) }))
+      (λ e. rw e (record {
+        spares =
+            only-both unguarded (take n (map putRemove (reverse made))) (poison b) (only-take unguarded n (map putRemove (reverse made)) back)
+            (poisoning b .spares);
+      }))
       (λ e. rw e (record { spares = back }))
 
   one : (p : Put) → memb (p .kind) unguarded ≡ true → Guardless (p ∷ [])
@@ -130,7 +141,8 @@ module _ (S : Store) (x : Tx) (logged : Bool) (plan : Schedule) where
       let back = sym (applyAll-append (guardsTaken S x logged plan) (release S x) S) ∙ both-back S x (g .0) (g .1) in
       rw (applyAll-append ps (release S x) S) (rw back at (guards-through (release S x) (full h)))
 
-  spoiled : {n : ℕ} {made some finishing : List Put} {poisons : Put} {kind : Fate → Refusal} {y : Tx} {drops : Bool} → Spoil S x logged plan n made some poisons finishing kind y drops
+  spoiled : {n : ℕ} {made some finishing : List Put} {poisons : Put} {kind : Fate → Refusal} {y : Tx} {drops : Bool}
+      → Spoil S x logged plan n made some poisons finishing kind y drops
       → Between made × Guardless some × Guardless (poisons ∷ finishing)
   spoiled (unremoved k) = (then start inserting, some (count S x logged plan 17) removing, one putPoison refl)
   spoiled (unpublished k) = (then (then start inserting) removing, some (count S x logged plan 18) publishing, doomed)
@@ -138,18 +150,33 @@ module _ (S : Store) (x : Tx) (logged : Bool) (plan : Schedule) where
   spoiled (unfinished k) = (then (then (then (then start inserting) removing) publishing) freeing, none, one (putDoom (x .txid .0)) refl)
 
   no-guard : (n : ℕ) (ps : List Put) (d : End) → resting S ≡ true → Outcome S x logged plan n ps d → SameGuards (applyAll ps S) S
-  no-guard _ _ _ r (done p) = let-go r (then (then (then (then (then (then start inserting) removing) publishing) freeing) (one (putDrop (x .txid .0)) refl)) stamps)
+  no-guard _ _ _ r (done p) =
+      let-go r (then (then (then (then (then (then start inserting) removing) publishing) freeing) (one (putDrop (x .txid .0)) refl)) stamps)
   no-guard _ _ _ r (stays l t k) = rw (given-back S x logged plan r t) (record { stripe = refl; partition = refl })
   no-guard _ _ _ r (aborts {taken = taken} {back = back} l t k) =
-      rw (sym (append-assoc taken back (aborting S x logged plan .puts)), applyAll-append (taken ++ back) (aborting S x logged plan .puts) S, given-back S x logged plan r t)
+      rw (
+        sym (append-assoc taken back (aborting S x logged plan .puts)),
+        applyAll-append (taken ++ back) (aborting S x logged plan .puts) S,
+        given-back S x logged plan r t,
+      )
       (guards-kept S (aborted (S .poisoned)))
   no-guard _ _ _ r (uninserted p k) =
-      simp append-assoc (simp append-assoc at (let-go r (then (then start (some (count S x logged plan 15) inserting)) (rolled false (take (count S x logged plan 15) (destinations (changes S x)))))))
+      simp append-assoc
+      (simp append-assoc at
+      (let-go r
+      (then (then start (some (count S x logged plan 15) inserting)) (rolled false (take (count S x logged plan 15) (destinations (changes S x)))))))
   no-guard _ _ _ r (uncalled p l k) =
-      simp append-assoc (simp append-assoc at (let-go r (then (then (then (then start inserting) called) (rolled (worse S x logged plan) (destinations (changes S x)))) (aborted (worse S x logged plan || undoing S x logged plan .failed)))))
+      simp append-assoc
+      (simp append-assoc at
+      (let-go r (then (then (then (then start inserting) called) (rolled (worse S x logged plan) (destinations (changes S x))))
+      (aborted (worse S x logged plan || undoing S x logged plan .failed)))))
   no-guard _ _ _ r (spoils p k) = let h = spoiled k in simp append-assoc (simp append-assoc at (let-go r (then (then (h .0) (h .1)) (h .2))))
   no-guard _ _ _ r (unstamped p k) =
-      simp append-assoc (simp append-assoc at (let-go r (then (then (then (then (then (then (then start inserting) removing) publishing) freeing) (one (putDrop (x .txid .0)) refl)) (some (count S x logged plan 22) stamps)) (one putPoison refl))))
+      simp append-assoc
+      (simp append-assoc at
+      (let-go r (then (then (then (then (then (then (then start inserting) removing) publishing) freeing) (one (putDrop (x .txid .0)) refl))
+      (some (count S x logged plan 22) stamps))
+      (one putPoison refl))))
 
   -- an admitted commit that isn't cut leaves no guard held: T is a test of numbers that 18 fails
   pub guards-released : (cut : Cut) → Admitted S x plan → (T : ℕ → Bool) → T 18 ≡ false → let a = commit S x logged plan cut in

@@ -138,7 +138,7 @@ rejected w = (
       (λ g. let r = only-text w (lineOf (split 9 w)) (not-bad _ g) refl in absurd (none (lineOf (split 9 w)) (r .1) (r .0))),
 )
 
--- every place that is read is one of the 16
+-- every place that is read is below the limit
 proper-place : (l : Line) → Proper l → PlaceBelow l
 proper-place (lineB i) p = p
 proper-place (lineR i r) p = p .0

@@ -53,8 +53,10 @@ is-number (b ∷ c ∷ w) a z p l = rw (a, ne-eqb b 48 z, lt-ltb (valueOf 0 (b �
 reads-by : (f n : ℕ) → 0 < f → n < 10 ^ f → n < keyEnd → (isNumber (decimal f n []) ≡ true) × (valueOf 0 (decimal f n []) ≡ n)
 reads-by f n h l k =
     by (ltb 0 n)
-    (λ t. let p : 0 < n = ltb-true _ _ t in
-    (is-number (decimal f n []) (all-digits f n [] refl) (no-zero f n [] p l) (omega (arith, value-decimal f n [] l)) (omega (arith, value-decimal f n [] l)), value-decimal f n [] l))
+    (λ t. let p : 0 < n = ltb-true _ _ t in (
+      is-number (decimal f n []) (all-digits f n [] refl) (no-zero f n [] p l) (omega (arith, value-decimal f n [] l)) (omega (arith, value-decimal f n [] l)),
+      value-decimal f n [] l,
+    ))
     (λ t. let z : n ≡ 0 = omega (arith, ltb-false) in
     (rw (digit-last f n [] h (omega arith), z), value-decimal f n [] l))
 
@@ -67,7 +69,8 @@ steps-enough (suc f) (suc g) n rest h m l =
     (λ t. let s : n < 10 = ltb-true _ _ t in
     rw (digit-last (suc f) n rest (omega arith) s) (digit-last (suc g) n rest (omega arith) s))
     (λ t. let b : 10 ≤ n = ltb-false _ _ t in
-    rw (digit-more (suc f) f n rest refl b) (digit-more (suc g) g n rest refl b ∙ steps-enough f g (n / 10) ((48 + n % 10) ∷ rest) (more-room f n b l) (omega arith) (omega arith)))
+    rw (digit-more (suc f) f n rest refl b)
+    (digit-more (suc g) g n rest refl b ∙ steps-enough f g (n / 10) ((48 + n % 10) ∷ rest) (more-room f n b l) (omega arith) (omega arith)))
   where
     more-room : (f n : ℕ) → 10 ≤ n → n < 10 ^ suc f → 0 < f
     more-room zero n b l = absurd (omega arith)

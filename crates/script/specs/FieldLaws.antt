@@ -43,7 +43,8 @@ module _ (s : Bytes) (v i : ℕ) where
   pub digits-more : i < length s → 48 ≤ getD s i 0 → getD s i 0 ≤ 57 → v * 10 + (getD s i 0 - 48) < keyEnd
       → numFrom v (drop i s) ≡ numFrom (v * 10 + (getD s i 0 - 48)) (drop (i + 1) s)
   unfolding numFrom
-  digits-more h lo hi l = rw (drop-cons s i 0 h) (simp (add-one, le-leb 48 (getD s i 0) lo, le-leb (getD s i 0) 57 hi, lt-ltb (v * 10 + (getD s i 0 - 48)) keyEnd l))
+  digits-more h lo hi l =
+      rw (drop-cons s i 0 h) (simp (add-one, le-leb 48 (getD s i 0) lo, le-leb (getD s i 0) 57 hi, lt-ltb (v * 10 + (getD s i 0 - 48)) keyEnd l))
 
 -- a further digit makes no number smaller
 value-grows : (v : ℕ) (w : Bytes) → v ≤ valueOf v w

@@ -61,7 +61,8 @@ decimal-onto zero n r s = refl
 decimal-onto (suc f) n r s =
     by (ltb n 10)
     (λ t. let h : n < 10 = ltb-true _ _ t in digit-last (suc f) n (r ++ s) (omega arith) h ∙ rw (digit-last (suc f) n r (omega arith) h))
-    (λ t. let h : 10 ≤ n = ltb-false _ _ t in digit-more (suc f) f n (r ++ s) refl h ∙ decimal-onto f (n / 10) ((48 + n % 10) ∷ r) s ∙ rw (digit-more (suc f) f n r refl h))
+    (λ t. let h : 10 ≤ n = ltb-false _ _ t in
+    digit-more (suc f) f n (r ++ s) refl h ∙ decimal-onto f (n / 10) ((48 + n % 10) ∷ r) s ∙ rw (digit-more (suc f) f n r refl h))
 
 onto : (n : ℕ) (r s : Bytes) → inDecimal n (r ++ s) ≡ inDecimal n r ++ s
 unfolding inDecimal

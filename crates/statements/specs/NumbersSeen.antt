@@ -7,7 +7,9 @@ use lib.ListN.{length, take, drop}
 use lib.Dec.{ltb}
 use Rattle.records.specs.Zero.{onlyTxid, zeroTx}
 use Rattle.rules.specs.Lists.{memb}
-use Rattle.rules.specs.Types.{Store, Tx, Schedule, Cut, Uncut, After, Fate, Open, Closed, Undone, Standing, Refusal, Done, NotResting, Unfit, NotActive, StepFailed, PrepareFailed, PreparePanicked, Conflict, BoundDurably, FoundPoisoned, InsertFailed, CallbackFailed, CallbackPanicked, RemoveFailed, PublishFailed, RecycleFailed, FinishFailed, StampFailed, CutOff, CleanupFailed}
+use Rattle.rules.specs.Types.{Store, Tx, Schedule, Cut, Uncut, After, Fate, Open, Closed, Undone, Standing, Refusal, Done, NotResting, Unfit, NotActive}
+use Rattle.rules.specs.Types.{StepFailed, PrepareFailed, PreparePanicked, Conflict, BoundDurably, FoundPoisoned, InsertFailed, CallbackFailed}
+use Rattle.rules.specs.Types.{CallbackPanicked, RemoveFailed, PublishFailed, RecycleFailed, FinishFailed, StampFailed, CutOff, CleanupFailed}
 use Rattle.rules.specs.Store.{activeTxids}
 use Rattle.rules.specs.Transaction.{noWrites, noAccesses, emptied}
 use Rattle.rules.specs.Admitted.{resting}
@@ -83,10 +85,13 @@ module _ (S : Store) (x : Tx) (logged : Bool) (plan : Schedule) where
   abbrev pub lateRows : List Row
   lateRows =
       row 13 (failed 17) (RemoveFailed Undone) (stored (firstOf 17 (removals S x) ++ putPoison ∷ [])) x
-      ∷ row 14 (failed 18) (PublishFailed Undone) (stored (removals S x ++ (firstOf 18 (publication x) ++ putDoom (x .txid .0) ∷ finish S x logged plan))) (noAccesses x)
-      ∷ row 15 (failed 19) (RecycleFailed Undone) (stored (removals S x ++ (publication x ++ (firstOf 19 (recycling S x) ++ putDoom (x .txid .0) ∷ finish S x logged plan)))) (noWrites x)
+      ∷ row 14 (failed 18) (PublishFailed Undone)
+      (stored (removals S x ++ (firstOf 18 (publication x) ++ putDoom (x .txid .0) ∷ finish S x logged plan))) (noAccesses x)
+      ∷ row 15 (failed 19) (RecycleFailed Undone)
+      (stored (removals S x ++ (publication x ++ (firstOf 19 (recycling S x) ++ putDoom (x .txid .0) ∷ finish S x logged plan)))) (noWrites x)
       ∷ row 16 (failed 21) (FinishFailed Undone) (stored (removals S x ++ (publication x ++ (recycling S x ++ putDoom (x .txid .0) ∷ [])))) (emptied x)
-      ∷ row 17 (failed 22) (StampFailed Standing) (stored (removals S x ++ (publication x ++ (recycling S x ++ putDrop (x .txid .0) ∷ (firstOf 22 (stamping S x) ++ putPoison ∷ []))))) (emptied x)
+      ∷ row 17 (failed 22) (StampFailed Standing)
+      (stored (removals S x ++ (publication x ++ (recycling S x ++ putDrop (x .txid .0) ∷ (firstOf 22 (stamping S x) ++ putPoison ∷ []))))) (emptied x)
       ∷ []
 
   -- 15, whose insertions are undone, or not all of them; then 16: 12 keeps its number, and 19 is "given in place of" 11

@@ -7,7 +7,8 @@ use lib.Dec.{eqb, ltb, leb}
 use Rattle.records.specs.Limits.{rows, activeLimit, writeLimit, readLimit, clockEnd}
 use Rattle.rules.specs.Lists.{memb}
 use Rattle.rules.specs.Types.{Store, Tx, Open, Closed}
-use Rattle.rules.specs.Types.{NotResting, Unfit, NotActive, FoundPoisoned, ActiveFull, ClockAtEnd, RowTooHigh, ReadsFull, WritesFull, SlotsFull, LockedByAnother, NoHead}
+use Rattle.rules.specs.Types.{NotResting, Unfit, NotActive, FoundPoisoned, ActiveFull, ClockAtEnd}
+use Rattle.rules.specs.Types.{RowTooHigh, ReadsFull, WritesFull, SlotsFull, LockedByAnother, NoHead}
 use Rattle.rules.specs.Store.{activeTxids}
 use Rattle.rules.specs.Transaction.{readsOf}
 use Rattle.rules.specs.Admitted.{resting}

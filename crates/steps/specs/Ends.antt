@@ -9,7 +9,9 @@ use lib.Dec.{eqb, leb}
 use borrow.Author.Tests.{leb-true, leb-false}
 use Rattle.records.specs.Zero.{onlyTxid}
 use Rattle.basic_laws.specs.Cases.{by}
-use Rattle.rules.specs.Types.{Store, Tx, Schedule, Open, Closed, Undone, Standing, Refusal, Done, StepFailed, PrepareFailed, PreparePanicked, Conflict, BoundDurably, FoundPoisoned, InsertFailed, CallbackFailed, CallbackPanicked, RemoveFailed, PublishFailed, RecycleFailed, FinishFailed, StampFailed, CleanupFailed}
+use Rattle.rules.specs.Types.{Store, Tx, Schedule, Open, Closed, Undone, Standing, Refusal, Done, StepFailed, PrepareFailed}
+use Rattle.rules.specs.Types.{PreparePanicked, Conflict, BoundDurably, FoundPoisoned, InsertFailed, CallbackFailed, CallbackPanicked}
+use Rattle.rules.specs.Types.{RemoveFailed, PublishFailed, RecycleFailed, FinishFailed, StampFailed, CleanupFailed}
 use Rattle.rules.specs.Transaction.{noWrites, noAccesses, emptied}
 use Rattle.rules.specs.Numbers.{fate, isDone}
 use Rattle.rules.specs.Faults.{F, P, X, Q, faultsOf, faultAt}
@@ -39,7 +41,13 @@ insertEnding unrolled = record { refusal = InsertFailed (fate unrolled false); p
 abbrev pub callbackEnding : Bool → Bool → Bool → Bool → Ending
 callbackEnding worse panics unrolled failed =
     let bad = unrolled || failed in
-    record { refusal = cond panics CallbackPanicked (cond bad CleanupFailed CallbackFailed) (fate (worse || bad) (not failed)); poisoned = worse || bad; cleanup = false; undone = not unrolled; dropped = false }
+    record {
+      refusal = cond panics CallbackPanicked (cond bad CleanupFailed CallbackFailed) (fate (worse || bad) (not failed));
+      poisoned = worse || bad;
+      cleanup = false;
+      undone = not unrolled;
+      dropped = false;
+    }
 
 -- 13 to 17
 abbrev pub spoilEnding : Refusal → Bool → Ending

@@ -28,7 +28,8 @@ module _ (S : Store) (x : Tx) (logged : Bool) (plan : Schedule) where
   unfolding gates
   run-puts =
       ap (λ r. r .puts) (run-at S x logged plan)
-      ∙ sym (List·getD-map (λ (r : Run). r .puts) (map (λ g. g .then) (gates S x logged plan) ++ clean S x logged plan ∷ []) (gateOf S x logged plan) (clean S x logged plan))
+      ∙ sym (List·getD-map (λ (r : Run). r .puts) (map (λ g. g .then) (gates S x logged plan) ++ clean S x logged plan ∷ [])
+      (gateOf S x logged plan) (clean S x logged plan))
 
   -- g, l, a and y as `first_gate`, `letters_of`, `ending_at` and `tx_left` find them
   module _ (g : ℕ) (at : g ≡ gateOf S x logged plan) (l : Letters) (is : l ≡ letters plan) (a : Ending) (so : a ≡ endingFor (letterIn l) (numberAt g)) where
@@ -54,5 +55,6 @@ module _ (S : Store) (x : Tx) (logged : Bool) (plan : Schedule) where
     answered y left =
         let end = run-ends y left in
         let passed : runOf S x logged plan .passed ≡ passedAt g = run-passed S x logged plan ∙ ap passedAt (sym at) in
-        let done : isDone (a .refusal) ≡ leb cleanGate g = ap (λ (e : End). isDone (e .refusal)) (sym (tabled y left)) ∙ done-at (letterAt (faultsOf plan)) x g in
+        let done : isDone (a .refusal) ≡ leb cleanGate g =
+        ap (λ (e : End). isDone (e .refusal)) (sym (tabled y left)) ∙ done-at (letterAt (faultsOf plan)) x g in
         rw (end, passed, record-if (a .refusal) x, done, events-by logged (S .bound) (ltb 0 (length (finals x))) (passedAt g) a y)

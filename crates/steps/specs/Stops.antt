@@ -43,7 +43,8 @@ gate-stops n r (true ∷ bs) cs e h = e
 gate-stops n r (false ∷ bs) cs e h = gate-stops (suc n) r bs cs e h
 
 -- none of them does, so the others decide
-pub gate-goes : (n q r : ℕ) (bs cs : List Bool) → q ≡ gateFrom n bs → cleanGate ≤ q → n + length bs ≤ cleanGate → r ≡ gateFrom (n + length bs) cs → r ≡ gateFrom n (bs ++ cs)
+pub gate-goes : (n q r : ℕ) (bs cs : List Bool) → q ≡ gateFrom n bs → cleanGate ≤ q → n + length bs ≤ cleanGate → r ≡ gateFrom (n + length bs) cs
+    → r ≡ gateFrom n (bs ++ cs)
 unfolding gateFrom
 gate-goes n q r [] cs e h few t = rw add-zero at t
 gate-goes n q r (true ∷ bs) cs e h few t = absurd (let z : ⊥ = omega arith in z)
@@ -107,13 +108,16 @@ module _ (letter : ℕ → ℕ) where
 
 -- they are the tests of commit's gates
 pub gate-tests : (S : Store) (x : Tx) (logged : Bool) (plan : Schedule)
-    → map (λ g. g .when) (gates S x logged plan) ≡ gateTests (letterAt (faultsOf plan)) logged (ltb 0 (length (finals x))) (S .bound) (S .poisoned) (indexReadConflict S x) (rowLockConflict S x) (serializationConflict S x) (writeBaseConflict S x)
+    → map (λ g. g .when) (gates S x logged plan)
+    ≡ gateTests (letterAt (faultsOf plan)) logged (ltb 0 (length (finals x))) (S .bound) (S .poisoned) (indexReadConflict S x)
+    (rowLockConflict S x) (serializationConflict S x) (writeBaseConflict S x)
 unfolding gates strikes gateTests openingTests guardingTests conflictTests closingTests letterAt
 gate-tests S x logged plan = refl
 
 -- the numbers that the four parts find from the letters: the first that is a gate is the place of the first test that holds
 module _ (letter : ℕ → ℕ) (logged writing bound poisoned t11 t12 t13 t14 : Bool) where
-  all-tests : (r : ℕ) → r ≡ gateFrom changesFailed (gateTests letter logged writing bound poisoned t11 t12 t13 t14) → r ≡ firstTrue (gateTests letter logged writing bound poisoned t11 t12 t13 t14)
+  all-tests : (r : ℕ) → r ≡ gateFrom changesFailed (gateTests letter logged writing bound poisoned t11 t12 t13 t14)
+      → r ≡ firstTrue (gateTests letter logged writing bound poisoned t11 t12 t13 t14)
   unfolding gateTests openingTests guardingTests conflictTests closingTests
   all-tests r e = e ∙ gate-first 0 (gateTests letter logged writing bound poisoned t11 t12 t13 t14) refl ∙ zero-add _
 
@@ -130,11 +134,15 @@ module _ (letter : ℕ → ℕ) (logged writing bound poisoned t11 t12 t13 t14 :
       module _ (guarded : cleanGate ≤ b) (d : ℕ) (tests : d ≡ gateFrom indexReadsFailed (conflictTests letter t11 t12 t13 t14)) where
         pub first-conflict : d < cleanGate → d ≡ firstTrue (gateTests letter logged writing bound poisoned t11 t12 t13 t14)
         unfolding gateTests openingTests guardingTests
-        first-conflict h = all-tests d (gate-goes _ _ _ _ _ opens passed (omega arith) (gate-goes _ _ _ _ _ guards guarded (omega arith) (gate-stops _ _ _ _ tests h)))
+        first-conflict h =
+            all-tests d (gate-goes _ _ _ _ _ opens passed (omega arith) (gate-goes _ _ _ _ _ guards guarded (omega arith) (gate-stops _ _ _ _ tests h)))
 
-        pub first-closing : cleanGate ≤ d → (e : ℕ) → e ≡ gateFrom insertFailed (closingTests letter logged) → e ≡ firstTrue (gateTests letter logged writing bound poisoned t11 t12 t13 t14)
+        pub first-closing : cleanGate ≤ d → (e : ℕ) → e ≡ gateFrom insertFailed (closingTests letter logged)
+            → e ≡ firstTrue (gateTests letter logged writing bound poisoned t11 t12 t13 t14)
         unfolding gateTests openingTests guardingTests conflictTests
-        first-closing h e closes = all-tests e (gate-goes _ _ _ _ _ opens passed (omega arith) (gate-goes _ _ _ _ _ guards guarded (omega arith) (gate-goes _ _ _ _ _ tests h (omega arith) closes)))
+        first-closing h e closes =
+            all-tests e (gate-goes _ _ _ _ _ opens passed (omega arith)
+            (gate-goes _ _ _ _ _ guards guarded (omega arith) (gate-goes _ _ _ _ _ tests h (omega arith) closes)))
 
 -- the gate at which a run of commit ends
 unfoldable pub gateOf : Store → Tx → Bool → Schedule → ℕ

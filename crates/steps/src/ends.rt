@@ -210,7 +210,8 @@ pub fn ending_at(gate: usize, l: Letters) -> Ending
 }
 
 fn callback_at(l: Letters) -> Ending
-    ensures { λ e. ⌜ e ≡ callbackEnding (hits (letterIn l) 16 X || hits (letterIn l) 16 Q) (hits (letterIn l) 16 P || hits (letterIn l) 16 Q) (rollbackFails (letterIn l)) (abortFails (letterIn l)) ⌝ }
+    ensures { λ e. ⌜ e ≡ callbackEnding (hits (letterIn l) 16 X || hits (letterIn l) 16 Q) (hits (letterIn l) 16 P || hits (letterIn l) 16 Q)
+        (rollbackFails (letterIn l)) (abortFails (letterIn l)) ⌝ }
 {
     let worse = either(l.at[16] == b'X', l.at[16] == b'Q');
     let panics = either(l.at[16] == b'P', l.at[16] == b'Q');

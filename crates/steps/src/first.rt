@@ -10,9 +10,9 @@ ghost use Rattle.steps.specs.GateTable.{changesFailed, indexGuardsFailed
 ghost use Rattle.steps.specs.Stops.{firstTrue, gateFrom, letterIn, openingTests, guardingTests, conflictTests, closingTests, gateTests};
 use super::gate::Gate;
 use super::gates;
+use commit_tests::conflicts;
 use commit_tests::faults::Letters;
 use commit_tests::finals::Finals;
-use commit_tests::conflicts;
 use records::RowId;
 use records::SlotPtr;
 use records::Store;
@@ -78,7 +78,12 @@ fn testing<'a>(
     x: Tx,
     finals: Finals,
 ) -> usize
-    ensures { λ g. ⌜ ((S : Store) → Lends S (now (stamps .entry)) (now (heads .entry)) (now (locked .entry)) (now (owner .entry)) (now (active .entry)) (now (xmin .entry)) (now (xmax .entry)) → g ≡ gateFrom indexReadsFailed (conflictTests (letterIn l) (indexReadConflict S x) (rowLockConflict S x) (serializationConflict S x) (any (baseMoved (S .heads)) (take (finals .count) (finals .at))))) ⌝ }
+    ensures { λ g. ⌜ ((S : Store)
+        → Lends S (now (stamps .entry)) (now (heads .entry)) (now (locked .entry)) (now (owner .entry)) (now (active .entry)) (now (xmin .entry))
+        (now (xmax .entry))
+        → g ≡ gateFrom indexReadsFailed
+        (conflictTests (letterIn l) (indexReadConflict S x) (rowLockConflict S x) (serializationConflict S x)
+        (any (baseMoved (S .heads)) (take (finals .count) (finals .at))))) ⌝ }
 {
     let g = gates::index_read_conflict(l, conflicts::index_read_conflict(stamps, x));
     if g < Gate::CLEAN {
@@ -91,7 +96,10 @@ fn testing<'a>(
     if g < Gate::CLEAN {
         return g;
     }
-    let g = gates::has_serialization_conflict(l, conflicts::has_serialization_conflict(xmin, xmax, x));
+    let g = gates::has_serialization_conflict(
+        l,
+        conflicts::has_serialization_conflict(xmin, xmax, x),
+    );
     if g < Gate::CLEAN {
         return g;
     }
@@ -150,7 +158,11 @@ pub fn first_gate<'a>(
     x: Tx,
     finals: Finals,
 ) -> usize
-    ensures { λ g. ⌜ ((S : Store) → Lends S (now (stamps .entry)) (now (heads .entry)) (now (locked .entry)) (now (owner .entry)) (now (active .entry)) (now (xmin .entry)) (now (xmax .entry)) → g ≡ firstTrue (gateTests (letterIn l) logged writing bound poisoned (indexReadConflict S x) (rowLockConflict S x) (serializationConflict S x) (any (baseMoved (S .heads)) (take (finals .count) (finals .at))))) ⌝ }
+    ensures { λ g. ⌜ ((S : Store)
+        → Lends S (now (stamps .entry)) (now (heads .entry)) (now (locked .entry)) (now (owner .entry)) (now (active .entry)) (now (xmin .entry))
+        (now (xmax .entry))
+        → g ≡ firstTrue (gateTests (letterIn l) logged writing bound poisoned (indexReadConflict S x) (rowLockConflict S x)
+        (serializationConflict S x) (any (baseMoved (S .heads)) (take (finals .count) (finals .at))))) ⌝ }
 {
     let g = opening(l, logged);
     if g < Gate::CLEAN {

@@ -91,7 +91,9 @@ module _ (S : Store) (x : Tx) (logged : Bool) (plan : Schedule) where
   -- after them abort's stores are the same
   pub abort-after-rollback : (worse : Bool) (made : List ℕ) (T : Store) (t : ℕ) → abortPuts (applyAll (undo worse made) T) t ≡ abortPuts T t
   abort-after-rollback worse made T t =
-      abort-calm (undo worse made) T t (only-both calm (cond worse (putPoison ∷ []) []) (rollback S x logged plan worse made .puts) (only-if calm worse (putPoison ∷ []) [] refl refl) (rollback-calm worse made))
+      abort-calm (undo worse made) T t
+      (only-both calm (cond worse (putPoison ∷ []) []) (rollback S x logged plan worse made .puts)
+      (only-if calm worse (putPoison ∷ []) [] refl refl) (rollback-calm worse made))
 
   -- and the store is poisoned where the abort that follows takes it to be
   pub flag-after-rollback : (worse : Bool) (made : List ℕ) (T : Store) → T .poisoned ≡ false

@@ -12,11 +12,15 @@ use Rattle.rules.specs.Admitted.{resting}
 use Rattle.rules.specs.Fit.{fit}
 use Rattle.rules.specs.Tests.{writeBaseConflict}
 use Rattle.rules.specs.Changes.{changes, publication, recycled, recycling, stamping}
-use Rattle.rules.specs.Commit.{End, Step, goes, ends, stopIf, indexChangesMade, indexLockKeys, prepareCommitRecord, runPrepare, acquireIndexLocks, acquirePartitionLocks, ensureUnloggedWriteAllowed, checkNotPoisoned, prepareIndexDestinations, invokeBeforePublish, removeIndexSources, publishWriteSet, recycleNonFinalWrites, finishTransaction, publishIndexStamps, steps, Run, run, committed, runOf}
+use Rattle.rules.specs.Commit.{End, Step, goes, ends, stopIf, indexChangesMade, indexLockKeys, prepareCommitRecord, runPrepare}
+use Rattle.rules.specs.Commit.{acquireIndexLocks, acquirePartitionLocks, ensureUnloggedWriteAllowed, checkNotPoisoned}
+use Rattle.rules.specs.Commit.{prepareIndexDestinations, invokeBeforePublish, removeIndexSources, publishWriteSet}
+use Rattle.rules.specs.Commit.{recycleNonFinalWrites, finishTransaction, publishIndexStamps, steps, Run, run, committed, runOf}
 use Rattle.run_laws.specs.OnlyKinds.{only, xmin-kept, next-kept}
 use Rattle.statements.specs.Sized.{Sized}
 use Rattle.upstream.specs.Beside.{Beside, quiet, quiet-puts, steps-same}
-use Rattle.upstream.specs.ReadsThen.{changes-kept, index-guards-quiet, partition-guards-quiet, insertions-quiet, removals-quiet, stamps-only, release-same, recycle-same, finish-same, stamps-same}
+use Rattle.upstream.specs.ReadsThen.{changes-kept, index-guards-quiet, partition-guards-quiet, insertions-quiet}
+use Rattle.upstream.specs.ReadsThen.{removals-quiet, stamps-only, release-same, recycle-same, finish-same, stamps-same}
 use Rattle.run_laws.specs.PublishedChains.{newHeads, publish-only, publish-heads}
 use Rattle.upstream.specs.RecycledThen.{recycled-same, changes-recycled}
 
@@ -160,11 +164,13 @@ module _ (S : Store) (x : Tx) (logged : Bool) (plan : Schedule) where
     unfolding steps
     from-14 T e = (
       ap (λ (l : List Step). getD l 13 (goes [])) (steps-same S T x logged plan e),
-      λ ps g. from-15 z h f (goes-past _ _ _ _ _ _ _ _ g) (applyAll ps T) (quiet-puts S T ps (quiet-goes _ ps (quiet-if _ _ _ tt (quiet-if _ _ _ tt refl)) g) e),
+      λ ps g.
+          from-15 z h f (goes-past _ _ _ _ _ _ _ _ g) (applyAll ps T) (quiet-puts S T ps (quiet-goes _ ps (quiet-if _ _ _ tt (quiet-if _ _ _ tt refl)) g) e),
     )
 
     from-1 : Agrees x logged plan 0 (steps S x logged plan) S
-    unfolding steps indexChangesMade indexLockKeys prepareCommitRecord runPrepare acquireIndexLocks acquirePartitionLocks ensureUnloggedWriteAllowed checkNotPoisoned
+    unfolding steps indexChangesMade indexLockKeys prepareCommitRecord runPrepare acquireIndexLocks acquirePartitionLocks
+        ensureUnloggedWriteAllowed checkNotPoisoned
     from-1 =
         quietly 0 refl refl
         (quietly 1 refl refl

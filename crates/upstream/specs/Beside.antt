@@ -8,16 +8,23 @@ use Rattle.records.specs.Setters.{beside}
 use Rattle.rules.specs.Types.{Store, Tx, Schedule}
 use Rattle.rules.specs.Lists.{memb}
 use Rattle.rules.specs.Calls.{lockedByAnother}
-use Rattle.rules.specs.Puts.{Put, kStripe, kPartition, kInsert, kRemove, kXmax, kHead, kFree, kDrop, kStamp, kPoison, kDoom, kEnter, kClock, kXmin, kNext, kKey, lastKind, apply, applyAll, abortPuts}
+use Rattle.rules.specs.Puts.{Put, kStripe, kPartition, kInsert, kRemove, kXmax, kHead, kFree, kDrop, kStamp, kPoison}
+use Rattle.rules.specs.Puts.{kDoom, kEnter, kClock, kXmin, kNext, kKey, lastKind, apply, applyAll, abortPuts}
 use Rattle.rules.specs.Tests.{indexReadConflict, rowLockConflict, readConflict, serializationConflict, writeBaseConflict}
 use Rattle.rules.specs.Changes.{changes, indexGuards, release, insertions, removals, recycled, recycling, stamping}
-use Rattle.rules.specs.Commit.{strikes, count, abortOrPoison, rollback, indexChangesMade, indexLockKeys, prepareCommitRecord, runPrepare, acquireIndexLocks, acquirePartitionLocks, ensureUnloggedWriteAllowed, checkNotPoisoned, prepareIndexDestinations, invokeBeforePublish, removeIndexSources, publishWriteSet, recycleNonFinalWrites, finishTransaction, publishIndexStamps, steps}
+use Rattle.rules.specs.Commit.{strikes, count, abortOrPoison, rollback, indexChangesMade, indexLockKeys, prepareCommitRecord, runPrepare, acquireIndexLocks}
+use Rattle.rules.specs.Commit.{acquirePartitionLocks, ensureUnloggedWriteAllowed, checkNotPoisoned, prepareIndexDestinations, invokeBeforePublish}
+use Rattle.rules.specs.Commit.{removeIndexSources, publishWriteSet, recycleNonFinalWrites, finishTransaction, publishIndexStamps, steps}
 use Rattle.basic_laws.specs.Cases.{and-true}
 use Rattle.run_laws.specs.OnlyKinds.{only, is-not}
 
 -- every step of commit is the same with other guards and postings
-pub steps-beside : (g q ps : List ℕ) (n : ℕ) (S : Store) (x : Tx) (logged : Bool) (plan : Schedule) → steps (beside g q ps n (S .poisoned) S) x logged plan ≡ steps S x logged plan
-unfolding lockedByAnother abortPuts indexReadConflict rowLockConflict readConflict serializationConflict writeBaseConflict changes indexGuards release insertions removals recycled recycling stamping strikes count abortOrPoison rollback indexChangesMade indexLockKeys prepareCommitRecord runPrepare acquireIndexLocks acquirePartitionLocks ensureUnloggedWriteAllowed checkNotPoisoned prepareIndexDestinations invokeBeforePublish removeIndexSources publishWriteSet recycleNonFinalWrites finishTransaction publishIndexStamps steps
+pub steps-beside : (g q ps : List ℕ) (n : ℕ) (S : Store) (x : Tx) (logged : Bool) (plan : Schedule)
+    → steps (beside g q ps n (S .poisoned) S) x logged plan ≡ steps S x logged plan
+unfolding lockedByAnother abortPuts indexReadConflict rowLockConflict readConflict serializationConflict writeBaseConflict changes
+    indexGuards release insertions removals recycled recycling stamping strikes count abortOrPoison rollback indexChangesMade indexLockKeys
+    prepareCommitRecord runPrepare acquireIndexLocks acquirePartitionLocks ensureUnloggedWriteAllowed checkNotPoisoned prepareIndexDestinations
+    invokeBeforePublish removeIndexSources publishWriteSet recycleNonFinalWrites finishTransaction publishIndexStamps steps
 steps-beside g q ps n S x logged plan = refl
 
 -- T is S but for guards and postings

@@ -11,7 +11,12 @@ use Rattle.run_laws.specs.EventLaws.{safeRelease}
 use Rattle.rules.specs.Commit.{runOf}
 use Rattle.run_laws.specs.Outcome.{aborting, rollingBack, worse, undoing, abortingLate}
 use Rattle.run_laws.specs.Gates.{Gate, hit, gates}
-use Rattle.upstream.specs.Primitives.{indexValidated, rowLockValidated, serialValidated, baseValidated, Call, here, ensureOpen, finalWriteIndices, indexChanges, indexLockKeys, acquireIndexLocks, acquirePartitionLocks, ensureUnloggedWriteAllowed, unboundIfOk, checkNotPoisoned, soundIfOk, abortForSerializationFailure, testing, prepareCommitRecord, runPrepare, poisonIndexes, poisonIf, abortPreparation, prepareIndexDestinations, runBeforePublish, resumeUnwind, rollbackPreparedCommit, removeIndexSources, publishPreparedWriteSet, publishWriteSet, recycleNonFinalWrites, flushLocalRecycleCaches, finishTransaction, publishIndexStamps, releasePartitionLocks, releaseIndexLocks}
+use Rattle.upstream.specs.Primitives.{indexValidated, rowLockValidated, serialValidated, baseValidated, Call, here, ensureOpen, finalWriteIndices}
+use Rattle.upstream.specs.Primitives.{indexChanges, indexLockKeys, acquireIndexLocks, acquirePartitionLocks, ensureUnloggedWriteAllowed, unboundIfOk}
+use Rattle.upstream.specs.Primitives.{checkNotPoisoned, soundIfOk, abortForSerializationFailure, testing, prepareCommitRecord, runPrepare}
+use Rattle.upstream.specs.Primitives.{poisonIndexes, poisonIf, abortPreparation, prepareIndexDestinations, runBeforePublish, resumeUnwind}
+use Rattle.upstream.specs.Primitives.{rollbackPreparedCommit, removeIndexSources, publishPreparedWriteSet, publishWriteSet, recycleNonFinalWrites}
+use Rattle.upstream.specs.Primitives.{flushLocalRecycleCaches, finishTransaction, publishIndexStamps, releasePartitionLocks, releaseIndexLocks}
 
 abbrev pub letGo : List Call
 letGo = releasePartitionLocks ∷ releaseIndexLocks ∷ []

@@ -236,7 +236,8 @@ module _ (S : Store) (x : Tx) (logged : Bool) (plan : Schedule) where
       gate (λ h. by f (λ e. ends 12 (to-12 free) (rw e) (rw e)) (λ e. ends 12 (to-12 free) (rw e) (rw e))) (λ _.
       gate (λ h. ends 13 (to-13 free) refl refl) (λ _.
       gate (λ h. by f (λ e. ends 13 (to-13 free) (rw e) (rw e)) (λ e. ends 13 (to-13 free) (rw e) (rw e))) (λ _.
-      gate (λ h. by (rollingBack S x logged plan .failed) (λ e. ends 14 (to-14 free) (rw (checked logged (ltb 0 (length (finals x))) (S .bound) free)) (rw e)) (λ e. ends 14 (to-14 free) (rw (checked logged (ltb 0 (length (finals x))) (S .bound) free)) (rw e))) (λ _.
+      gate (λ h. by (rollingBack S x logged plan .failed) (λ e. ends 14 (to-14 free) (rw (checked logged (ltb 0 (length (finals x))) (S .bound) free)) (rw e))
+      (λ e. ends 14 (to-14 free) (rw (checked logged (ltb 0 (length (finals x))) (S .bound) free)) (rw e))) (λ _.
       gate (λ h. let c = uncalled (worse S x logged plan) (undoing S x logged plan .failed) (abortingLate S x logged plan .failed) (and-true logged _ h .0) in
       ends 15 (to-15 free) (c .0) (c .1)) (λ _.
       gate (λ h. by logged (λ e. ends 16 (to-16 free) (rw e) (rw e)) (λ e. ends 16 (to-16 free) (rw e) (rw e))) (λ _.

@@ -15,7 +15,8 @@ use Rattle.rules.specs.Lists.{all, flat, memb}
 use Rattle.rules.specs.Store.{posting, keyOf, stripeOf, partitionOf, sameValue}
 use Rattle.rules.specs.Transaction.{writesOf, finals}
 use Rattle.rules.specs.Puts.{Put, kStripe, kPartition, putStripe, putPartition, apply, applyAll}
-use Rattle.rules.specs.Changes.{Change, changeOf, indexChanges, changes, postingIn, destinations, sources, stripesIn, changedStripes, guardedStripes, guardedPartitions, indexGuards, partitionGuards}
+use Rattle.rules.specs.Changes.{Change, changeOf, indexChanges, changes, postingIn, destinations, sources, stripesIn}
+use Rattle.rules.specs.Changes.{changedStripes, guardedStripes, guardedPartitions, indexGuards, partitionGuards}
 use Rattle.run_laws.specs.OnlyKinds.{only, only-map, kept, is-not}
 use Rattle.run_laws.specs.GuardPuts.{setAll, applyAll-append}
 use Rattle.run_laws.specs.Released.{unguarded}
@@ -51,8 +52,9 @@ one-stripe p r (Key k) lt m =
     let e = eqb-true p (posting k r) (sym (or-none (eqb p (posting k r))) ∙ m) in
     rw (e, key-of-posting k r lt) (mem-here (stripeOf k) [])
 
--- of changes of rows below 64, on one side or the other
-side-stripes : (side : Change → Value) → ((c : Change) (q : ℕ) → memb q (stripesIn (side c)) ≡ true → memb q (stripesIn (c .before) ++ stripesIn (c .after)) ≡ true)
+-- of changes of rows below the limit, on one side or the other
+side-stripes : (side : Change → Value)
+    → ((c : Change) (q : ℕ) → memb q (stripesIn (side c)) ≡ true → memb q (stripesIn (c .before) ++ stripesIn (c .after)) ≡ true)
     → (p : ℕ) (cs : List Change) → all (λ c. ltb (c .row) rows) cs ≡ true → memb p (flat (λ c. postingIn (c .row) (side c)) cs) ≡ true
     → memb (stripeOf (keyOf p)) (flat (λ c. stripesIn (c .before) ++ stripesIn (c .after)) cs) ≡ true
 side-stripes side h p [] b m = clash {b = false} m refl
@@ -69,7 +71,8 @@ side-stripes side h p (c ∷ cs) b m =
     (λ e. or-right (memb q here) (memb q there) (side-stripes side h p cs (a .1) e))
 
 -- the rows of changes are those of writes
-changes-rows : (key : List ℕ) (has : List Bool) (ws : List Write) → all (λ w. ltb (w .row .0) rows) ws ≡ true → all (λ c. ltb (c .row) rows) (indexChanges key has ws) ≡ true
+changes-rows : (key : List ℕ) (has : List Bool) (ws : List Write) → all (λ w. ltb (w .row .0) rows) ws ≡ true
+    → all (λ c. ltb (c .row) rows) (indexChanges key has ws) ≡ true
 unfolding indexChanges
 changes-rows key has [] h = refl
 changes-rows key has (w ∷ ws) h =
@@ -82,7 +85,8 @@ changes-rows key has (w ∷ ws) h =
 -- a test of a list's images
 all-images {ℓ} : {A : Type ℓ} (f : A → ℕ) (g : ℕ → Bool) (l : List A) → ((a : A) → memb (f a) (map f l) ≡ true → g (f a) ≡ true) → all (λ a. g (f a)) l ≡ true
 all-images f g [] h = refl
-all-images f g (a ∷ l) h = and-both (g (f a)) (all (λ a. g (f a)) l) (h a (mem-here (f a) (map f l))) (all-images f g l (λ b m. h b (mem-there (f b) (f a) (map f l) m)))
+all-images f g (a ∷ l) h =
+    and-both (g (f a)) (all (λ a. g (f a)) l) (h a (mem-here (f a) (map f l))) (all-images f g l (λ b m. h b (mem-there (f b) (f a) (map f l) m)))
 
 module _ (S : Store) (x : Tx) (logged : Bool) (plan : Schedule) (ok : Ready S x) (ps : List Put) (o : only unguarded ps ≡ true) where
   abbrev t : ℕ
@@ -93,16 +97,22 @@ module _ (S : Store) (x : Tx) (logged : Bool) (plan : Schedule) (ok : Ready S x)
   during = applyAll (guardsTaken S x logged plan ++ ps) S
 
   -- a posting put in or taken out: its key's stripe is guarded
-  guarded-stripe : (p : ℕ) → (memb p (destinations (changes S x)) || memb p (sources (changes S x))) ≡ true → memb (stripeOf (keyOf p)) (guardedStripes (changes S x) x) ≡ true
+  guarded-stripe : (p : ℕ) → (memb p (destinations (changes S x)) || memb p (sources (changes S x))) ≡ true
+      → memb (stripeOf (keyOf p)) (guardedStripes (changes S x) x) ≡ true
   unfolding guardedStripes changedStripes destinations sources changes
   guarded-stripe p m =
       let cs = indexChanges (S .key) (S .has) (finals x) in
       let q = stripeOf (keyOf p) in
       let b = changes-rows (S .key) (S .has) (finals x) (rows-fit S x ok) in
       let touched = flat (λ c. stripesIn (c .before) ++ stripesIn (c .after)) cs in
-      let there : memb q touched ≡ true = or-true (memb p (flat (λ c. postingIn (c .row) (c .after)) cs)) (memb p (flat (λ c. postingIn (c .row) (c .before)) cs)) m
-      (λ e. side-stripes (λ c. c .after) (λ c r k. mem-append (stripesIn (c .before)) (stripesIn (c .after)) r ∙ or-right (memb r (stripesIn (c .before))) (memb r (stripesIn (c .after))) k) p cs b e)
-      (λ e. side-stripes (λ c. c .before) (λ c r k. mem-append (stripesIn (c .before)) (stripesIn (c .after)) r ∙ or-left (memb r (stripesIn (c .before))) (memb r (stripesIn (c .after))) k) p cs b e) in
+      let there : memb q touched ≡ true =
+      or-true (memb p (flat (λ c. postingIn (c .row) (c .after)) cs)) (memb p (flat (λ c. postingIn (c .row) (c .before)) cs)) m
+      (λ e. side-stripes (λ c. c .after)
+      (λ c r k. mem-append (stripesIn (c .before)) (stripesIn (c .after)) r ∙ or-right (memb r (stripesIn (c .before))) (memb r (stripesIn (c .after))) k)
+      p cs b e)
+      (λ e. side-stripes (λ c. c .before)
+      (λ c r k. mem-append (stripesIn (c .before)) (stripesIn (c .after)) r ∙ or-left (memb r (stripesIn (c .before))) (memb r (stripesIn (c .after))) k)
+      p cs b e) in
       rw (mem-inOrder, mem-append, mem-inOrder, there)
 
   -- guards that are taken stay taken
@@ -117,7 +127,8 @@ module _ (S : Store) (x : Tx) (logged : Bool) (plan : Schedule) (ok : Ready S x)
       ap (λ (T : Store). T .«stripe_guards») (applyAll-append (G ++ Q) ps S)
       ∙ kept (λ T. T .«stripe_guards») unguarded (λ p T m. rw (is-not unguarded kStripe refl p m)) ps (applyAll (G ++ Q) S) o
       ∙ ap (λ (T : Store). T .«stripe_guards») (applyAll-append G Q S)
-      ∙ kept (λ T. T .«stripe_guards») ks (λ p T m. rw (is-not ks kStripe refl p m)) Q (applyAll G S) (only-map ks (λ i. putPartition i t) (guardedPartitions x) (λ i. refl))
+      ∙ kept (λ T. T .«stripe_guards») ks (λ p T m. rw (is-not ks kStripe refl p m)) Q (applyAll G S)
+      (only-map ks (λ i. putPartition i t) (guardedPartitions x) (λ i. refl))
       ∙ stripes-set (guardedStripes (changes S x) x) t S
 
   partition-guards : during .«partition_guards» ≡ setAll (S .«partition_guards») (guardedPartitions x) t
@@ -130,13 +141,17 @@ module _ (S : Store) (x : Tx) (logged : Bool) (plan : Schedule) (ok : Ready S x)
       ∙ kept (λ T. T .«partition_guards») unguarded (λ p T m. rw (is-not unguarded kPartition refl p m)) ps (applyAll (G ++ Q) S) o
       ∙ ap (λ (T : Store). T .«partition_guards») (applyAll-append G Q S)
       ∙ partitions-set (guardedPartitions x) t (applyAll G S)
-      ∙ ap (λ (g : List ℕ). setAll g (guardedPartitions x) t) (kept (λ T. T .«partition_guards») js (λ p T m. rw (is-not js kPartition refl p m)) G S (only-map js (λ i. putStripe i t) (guardedStripes (changes S x) x) (λ i. refl)))
+      ∙ ap (λ (g : List ℕ). setAll g (guardedPartitions x) t)
+      (kept (λ T. T .«partition_guards») js (λ p T m. rw (is-not js kPartition refl p m)) G S
+      (only-map js (λ i. putStripe i t) (guardedStripes (changes S x) x) (λ i. refl)))
 
   -- `held` of 002's change_valid: the guard of each changed key, on both sides
-  pub keys-held : (p : ℕ) → (memb p (destinations (changes S x)) || memb p (sources (changes S x))) ≡ true → getD (during .«stripe_guards») (stripeOf (keyOf p)) 0 ≡ t
+  pub keys-held : (p : ℕ) → (memb p (destinations (changes S x)) || memb p (sources (changes S x))) ≡ true
+      → getD (during .«stripe_guards») (stripeOf (keyOf p)) 0 ≡ t
   keys-held p m =
       ap (λ (g : List ℕ). getD g (stripeOf (keyOf p)) 0) stripe-guards
-      ∙ set-there (guardedStripes (changes S x) x) (S .«stripe_guards») t (stripeOf (keyOf p)) (omega (arith, ok .sized .«stripe_guards»)) (λ n. clash (guarded-stripe p m) n)
+      ∙ set-there (guardedStripes (changes S x) x) (S .«stripe_guards») t (stripeOf (keyOf p)) (omega (arith, ok .sized .«stripe_guards»))
+      (λ n. clash (guarded-stripe p m) n)
 
   -- the row partition of 002's `authorized`: the guard of each written row
   pub rows-held : all (λ w. eqb (getD (during .«partition_guards») (partitionOf (w .row .0)) 0) t) (writesOf x) ≡ true
@@ -145,4 +160,5 @@ module _ (S : Store) (x : Tx) (logged : Bool) (plan : Schedule) (ok : Ready S x)
       all-images (λ w. partitionOf (w .row .0)) (λ i. eqb (getD (during .«partition_guards») i 0) t) (writesOf x) (λ w m.
       let i = partitionOf (w .row .0) in
       eq-eqb (getD (during .«partition_guards») i 0) t (ap (λ (g : List ℕ). getD g i 0) partition-guards
-      ∙ set-there (guardedPartitions x) (S .«partition_guards») t i (omega (arith, ok .sized .«partition_guards»)) (λ n. clash (rw (mem-inOrder, mem-append, m)) n)))
+      ∙ set-there (guardedPartitions x) (S .«partition_guards») t i (omega (arith, ok .sized .«partition_guards»))
+      (λ n. clash (rw (mem-inOrder, mem-append, m)) n)))

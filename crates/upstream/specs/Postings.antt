@@ -38,7 +38,8 @@ insert-members c T h p = rw (insert-one c T, posted-of (into c (postingsOf T)) T
 
 pub remove-members : (c : ℕ) (T : Store) → length (postingsOf T) ≤ postingLimit → (p : ℕ)
     → memb p (postingsOf (apply (putRemove c) T)) ≡ (not (eqb p c) && memb p (postingsOf T))
-remove-members c T h p = rw (remove-one c T, posted-of (without c (postingsOf T)) T (omega (arith, without-length c (postingsOf T)))) (mem-without c (postingsOf T) p)
+remove-members c T h p =
+    rw (remove-one c T, posted-of (without c (postingsOf T)) T (omega (arith, without-length c (postingsOf T)))) (mem-without c (postingsOf T) p)
 
 -- poison_indexes: the flag, and nothing else
 pub poison-one : (T : Store) → apply putPoison T ≡ beside (T .«stripe_guards») (T .«partition_guards») (T .postings) (T .«posting_count») true T
@@ -70,7 +71,8 @@ laid S T l b h e m =
 -- removals from a store with its postings laid out
 taken-out : (S : Store) (cs l : List ℕ) → length l ≤ postingLimit → Moved S (applyAll (map putRemove cs) (posted l S)) (λ p. not (memb p cs) && memb p l)
 taken-out S cs l h =
-    laid S (applyAll (map putRemove cs) (posted l S)) (withoutAll cs l) (λ p. not (memb p cs) && memb p l) (omega (arith, withoutAll-length cs l)) (removed cs l S h) (mem-withoutAll cs l)
+    laid S (applyAll (map putRemove cs) (posted l S)) (withoutAll cs l) (λ p. not (memb p cs) && memb p l)
+    (omega (arith, withoutAll-length cs l)) (removed cs l S h) (mem-withoutAll cs l)
 
 module _ (S : Store) (x : Tx) (ok : Ready S x) where
   abbrev pub ds : List ℕ
@@ -97,14 +99,18 @@ module _ (S : Store) (x : Tx) (ok : Ready S x) where
   -- prepare_index_destinations, after n insertions
   pub prepares : (n : ℕ) → Moved S (applyAll (take n (insertions S x)) S) (λ p. memb p (take n ds) || memb p P)
   unfolding insertions
-  prepares n = rw (take-map putInsert n ds) (laid S _ (intoAll (take n ds) P) (λ p. memb p (take n ds) || memb p P) (short n) (put-in n) (mem-intoAll (take n ds) P))
+  prepares n =
+      rw (take-map putInsert n ds) (laid S _ (intoAll (take n ds) P) (λ p. memb p (take n ds) || memb p P) (short n) (put-in n) (mem-intoAll (take n ds) P))
 
   pub prepares-all : Moved S (applyAll (insertions S x) S) (λ p. memb p ds || memb p P)
   unfolding insertions
-  prepares-all = laid S _ (intoAll ds P) (λ p. memb p ds || memb p P) (rw (take-length ds) at (short (length ds))) (rw (take-length ds) at (put-in (length ds))) (mem-intoAll ds P)
+  prepares-all =
+      laid S _ (intoAll ds P) (λ p. memb p ds || memb p P) (rw (take-length ds) at (short (length ds)))
+      (rw (take-length ds) at (put-in (length ds))) (mem-intoAll ds P)
 
   -- rollback_index_destinations, after the removals cs that follow n insertions
-  pub rolls : (n : ℕ) (cs : List ℕ) → Moved S (applyAll (map putRemove cs) (applyAll (map putInsert (take n ds)) S)) (λ p. not (memb p cs) && (memb p (take n ds) || memb p P))
+  pub rolls : (n : ℕ) (cs : List ℕ)
+      → Moved S (applyAll (map putRemove cs) (applyAll (map putInsert (take n ds)) S)) (λ p. not (memb p cs) && (memb p (take n ds) || memb p P))
   rolls n cs =
       let m = taken-out S cs (intoAll (take n ds) P) (short n) in
       rw (put-in n) (record { rest = m .rest; are = λ p. m .are p ∙ rw (mem-intoAll (take n ds) P p) })
@@ -136,7 +142,8 @@ module _ (S : Store) (x : Tx) (ok : Ready S x) where
       (λ e. clash m (new-destination S x ok p (all-mem (λ q. memb q ds) (back n k) (back-are n k) p e)))
       (λ e. rw e (or-right (memb p (take n ds)) (memb p P) m))
 
-  pub adds-only : (n k p : ℕ) → memb p (postingsOf (applyAll (map putRemove (back n k)) (applyAll (map putInsert (take n ds)) S))) ≡ true → (memb p ds || memb p P) ≡ true
+  pub adds-only : (n k p : ℕ) → memb p (postingsOf (applyAll (map putRemove (back n k)) (applyAll (map putInsert (take n ds)) S))) ≡ true
+      → (memb p ds || memb p P) ≡ true
   adds-only n k p m =
       let a = and-true (not (memb p (back n k))) (memb p (take n ds) || memb p P) (sym (rolls n (back n k) .are p) ∙ m) in
       or-true (memb p (take n ds)) (memb p P) (a .1)
@@ -144,7 +151,8 @@ module _ (S : Store) (x : Tx) (ok : Ready S x) where
       (λ e. or-right (memb p ds) (memb p P) e)
 
   -- an insertion that failed after n: the store as it was, or poisoned
-  pub insert-failed : (logged : Bool) (plan : Schedule) (n : ℕ) → let T = applyAll (rollback S x logged plan false (take n ds) .puts) (applyAll (map putInsert (take n ds)) S) in
+  pub insert-failed : (logged : Bool) (plan : Schedule) (n : ℕ)
+      → let T = applyAll (rollback S x logged plan false (take n ds) .puts) (applyAll (map putInsert (take n ds)) S) in
       (T ≡ S) ⊎ (T .poisoned ≡ true)
   unfolding rollback
   insert-failed logged plan n = by (fails S x logged plan 24)

@@ -134,15 +134,21 @@ module _ (t : ℕ) (w : Write) (ws : List Write) (rest : List Put) (T : Store) w
   head-then : (U : Store) → U ≡ apply (putHead (w .row .0) (w .new .0)) T → U ≡ phase T w t 3 → Rest U → (n : ℕ)
       → Prefix t (applyAll (take n (putHead (w .row .0) (w .new .0) ∷ rest)) T) (w ∷ ws) T
   head-then U e f ih zero = here refl
-  head-then U e f ih (suc m) = more (subst (λ (X : Store). Prefix t (applyAll (take m rest) X) ws (phase T w t 3)) e (subst (λ (X : Store). Prefix t (applyAll (take m rest) U) ws X) f (ih m)))
+  head-then U e f ih (suc m) =
+      more (subst (λ (X : Store). Prefix t (applyAll (take m rest) X) ws (phase T w t 3)) e
+      (subst (λ (X : Store). Prefix t (applyAll (take m rest) U) ws X) f (ih m)))
 
-  mark-then : (U : Store) → U ≡ apply (putHead (w .row .0) (w .new .0)) (apply (putXmax (w .base .0) t) T) → U ≡ phase T w t 3 → apply (putXmax (w .base .0) t) T ≡ phase T w t 1 → Rest U → (n : ℕ)
+  mark-then : (U : Store) → U ≡ apply (putHead (w .row .0) (w .new .0)) (apply (putXmax (w .base .0) t) T) → U ≡ phase T w t 3
+      → apply (putXmax (w .base .0) t) T ≡ phase T w t 1 → Rest U → (n : ℕ)
       → Prefix t (applyAll (take n (putXmax (w .base .0) t ∷ putHead (w .row .0) (w .new .0) ∷ rest)) T) (w ∷ ws) T
   mark-then U e f k ih zero = here refl
   mark-then U e f k ih (suc zero) = half k
-  mark-then U e f k ih (suc (suc m)) = more (subst (λ (X : Store). Prefix t (applyAll (take m rest) X) ws (phase T w t 3)) e (subst (λ (X : Store). Prefix t (applyAll (take m rest) U) ws X) f (ih m)))
+  mark-then U e f k ih (suc (suc m)) =
+      more (subst (λ (X : Store). Prefix t (applyAll (take m rest) X) ws (phase T w t 3)) e
+      (subst (λ (X : Store). Prefix t (applyAll (take m rest) U) ws X) f (ih m)))
 
-pub publishes-prefix : (t : ℕ) (ws : List Write) (T : Store) (n : ℕ) → all (overBase (T .next)) ws ≡ true → Prefix t (applyAll (take n (flat (publishOne t) ws)) T) ws T
+pub publishes-prefix : (t : ℕ) (ws : List Write) (T : Store) (n : ℕ) → all (overBase (T .next)) ws ≡ true
+    → Prefix t (applyAll (take n (flat (publishOne t) ws)) T) ws T
 unfolding publishOne
 publishes-prefix t [] T n h = here (ap (λ (ps : List Put). applyAll ps T) (take-all n [] (omega arith)))
 publishes-prefix t (w ∷ ws) T n h =
@@ -162,7 +168,8 @@ unfolding finals
 finals-over S x f =
     let seen = walk (S .heads) (S .next) .seen in
     finals-all (overBase (S .next)) (writesOf x)
-    (all-then (writeFit (S .xmin) (S .next) seen (x .txid .0)) (overBase (S .next)) (λ w h. write-parts (S .xmin) (S .next) seen (x .txid .0) w h .over) (writesOf x) (fit-parts S x f .writes))
+    (all-then (writeFit (S .xmin) (S .next) seen (x .txid .0)) (overBase (S .next))
+    (λ w h. write-parts (S .xmin) (S .next) seen (x .txid .0) w h .over) (writesOf x) (fit-parts S x f .writes))
 
 module _ (S : Store) (x : Tx) (ok : Ready S x) where
   -- postings in and out: 002's `removed`
@@ -189,14 +196,19 @@ module _ (S : Store) (x : Tx) (ok : Ready S x) where
       let e : applyAll (insertions S x ++ (removals S x ++ ps)) S ≡ applyAll ps moved
       = applyAll-append (insertions S x) (removals S x ++ ps) S ∙ applyAll-append (removals S x) ps (applyAll (insertions S x) S) in
       let n : moved .next ≡ S .next = ap (λ (T : Store). T .next) (m .rest) in
-      let over : all (overBase (moved .next)) (finals x) ≡ true = subst (λ (l : List ℕ). all (overBase l) (finals x) ≡ true) (sym n) (finals-over S x (ok .fits)) in
+      let over : all (overBase (moved .next)) (finals x) ≡ true =
+      subst (λ (l : List ℕ). all (overBase l) (finals x) ≡ true) (sym n) (finals-over S x (ok .fits)) in
       record {
         rows = e ∙ publishes-list t (finals x) moved over;
         postings = λ p. rw (e, postings-kept ks refl refl ps moved o) (m .are p);
         guards = (
-          ap (λ (T : Store). T .«stripe_guards») e ∙ kept (λ T. T .«stripe_guards») ks (λ p T k. rw (is-not ks kStripe refl p k)) ps moved o ∙ ap (λ (T : Store). T .«stripe_guards») (m .rest),
-          ap (λ (T : Store). T .«partition_guards») e ∙ kept (λ T. T .«partition_guards») ks (λ p T k. rw (is-not ks kPartition refl p k)) ps moved o ∙ ap (λ (T : Store). T .«partition_guards») (m .rest),
+          ap (λ (T : Store). T .«stripe_guards») e ∙ kept (λ T. T .«stripe_guards») ks (λ p T k. rw (is-not ks kStripe refl p k)) ps moved o
+              ∙ ap (λ (T : Store). T .«stripe_guards») (m .rest),
+          ap (λ (T : Store). T .«partition_guards») e ∙ kept (λ T. T .«partition_guards») ks (λ p T k. rw (is-not ks kPartition refl p k)) ps moved o
+              ∙ ap (λ (T : Store). T .«partition_guards») (m .rest),
         );
-        poison = ap (λ (T : Store). T .poisoned) e ∙ kept (λ T. T .poisoned) ks (λ p T k. rw (is-not ks kPoison refl p k, is-not ks kDoom refl p k)) ps moved o ∙ ap (λ (T : Store). T .poisoned) (m .rest);
+        poison =
+            ap (λ (T : Store). T .poisoned) e ∙ kept (λ T. T .poisoned) ks (λ p T k. rw (is-not ks kPoison refl p k, is-not ks kDoom refl p k)) ps moved o
+            ∙ ap (λ (T : Store). T .poisoned) (m .rest);
         matches = changed-exact S x ok;
       }

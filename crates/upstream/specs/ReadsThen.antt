@@ -6,13 +6,15 @@ use Prim.Native.Nat.{ℕ}
 use Rattle.rules.specs.Types.{Store, Tx, Schedule}
 use Rattle.rules.specs.Lists.{memb}
 use Rattle.rules.specs.Puts.{Put, kFree, kKey, kStamp, putStripe, putPartition, putInsert, putRemove, putStamp, applyAll}
-use Rattle.rules.specs.Changes.{changes, destinations, sources, changedStripes, guardedStripes, guardedPartitions, indexGuards, partitionGuards, release, insertions, removals, recycled, recycling, stamping}
+use Rattle.rules.specs.Changes.{changes, destinations, sources, changedStripes, guardedStripes, guardedPartitions}
+use Rattle.rules.specs.Changes.{indexGuards, partitionGuards, release, insertions, removals, recycled, recycling, stamping}
 use Rattle.rules.specs.Commit.{strikes, count, recycleNonFinalWrites, finishTransaction, publishIndexStamps}
 use Rattle.run_laws.specs.OnlyKinds.{only, only-map, only-both, key-kept, has-kept}
 use Rattle.upstream.specs.Beside.{quiet}
 
 -- changed keys are the same after puts that free no slot and put no key
-pub changes-kept : (ks : List ℕ) → memb kFree ks ≡ false → memb kKey ks ≡ false → (ps : List Put) (T : Store) (x : Tx) → only ks ps ≡ true → changes (applyAll ps T) x ≡ changes T x
+pub changes-kept : (ks : List ℕ) → memb kFree ks ≡ false → memb kKey ks ≡ false → (ps : List Put) (T : Store) (x : Tx) → only ks ps ≡ true
+    → changes (applyAll ps T) x ≡ changes T x
 unfolding changes
 changes-kept ks f k ps T x o = rw (key-kept ks f k ps T o, has-kept ks f k ps T o)
 
@@ -51,7 +53,8 @@ module _ (S : Store) (x : Tx) where
 
   module _ (logged : Bool) (plan : Schedule) where
     -- and so does what steps 21 and 22 do; step 19 reads besides what is recycled
-    pub recycle-same : (T : Store) → changes T x ≡ changes S x → recycled T x ≡ recycled S x → recycleNonFinalWrites T x logged plan ≡ recycleNonFinalWrites S x logged plan
+    pub recycle-same : (T : Store) → changes T x ≡ changes S x → recycled T x ≡ recycled S x
+        → recycleNonFinalWrites T x logged plan ≡ recycleNonFinalWrites S x logged plan
     unfolding recycleNonFinalWrites recycling strikes count
     recycle-same T e r = rw (release-same T e, r)
 

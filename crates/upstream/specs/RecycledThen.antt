@@ -70,7 +70,9 @@ module _ (S : Store) (x : Tx) (z : Sized S) (h : resting S ≡ true) (k : fit S 
         row = omega (arith, ltb-true (w .row .0) rows (p .row), z .heads);
         pos = by (eqb n 0) (λ e. clash (rw (eqb-true n 0 e) at (p .taken)) zero-free) (λ e. omega (arith, eqb-false n 0 e));
         low = omega (arith, leb-true n slots (p .new), z .next);
-        over = eqb-true (getD (S .next) n 0) (w .base .0) (p .over) ∙ sym (eqb-true (getD (S .heads) (w .row .0) 0) (w .base .0) (not-false (eqb (getD (S .heads) (w .row .0) 0) (w .base .0)) c));
+        over =
+            eqb-true (getD (S .next) n 0) (w .base .0) (p .over)
+            ∙ sym (eqb-true (getD (S .heads) (w .row .0) 0) (w .base .0) (not-false (eqb (getD (S .heads) (w .row .0) 0) (w .base .0)) c));
         off = λ r lt. by (memb n (chains .0 r)) (λ m. clash (chains .1 .marked r n lt m) (not-true (on seen n) (p .off))) (λ e. e);
       }
 
@@ -129,7 +131,8 @@ module _ (S : Store) (x : Tx) (z : Sized S) (h : resting S ≡ true) (k : fit S 
       (λ m. let r = recycled-parts S x q m .0 in
       by (eqb q 0)
       (λ n. clash (rw (eqb-true q 0 n) at (lt-ltb 0 (getD (S .xmin) q 0) (r .some))) zero-free)
-      (λ n. clash (chains .1 .marked (w .row .0) q lt (chain-head (S .next) q (chains .0 (w .row .0)) (rw e at (chains .1 .stand .chain (w .row .0) lt)) (eqb-false q 0 n))) (r .off)))
+      (λ n. clash (chains .1 .marked (w .row .0) q lt
+      (chain-head (S .next) q (chains .0 (w .row .0)) (rw e at (chains .1 .stand .chain (w .row .0) lt)) (eqb-false q 0 n))) (r .off)))
       (λ n. n)
 
   both-kept : (ws : List Write) → all fitting ws ≡ true → any (conflicts (S .heads)) ws ≡ false
@@ -138,8 +141,10 @@ module _ (S : Store) (x : Tx) (z : Sized S) (h : resting S ≡ true) (k : fit S 
   both-kept [] f c n = tt
   both-kept (w ∷ ws) f c n =
       let a = and-true (fitting w) (all fitting ws) f in
-      let o = or-false (conflicts (S .heads) w) (any (conflicts (S .heads)) ws) c in
-      ((base-kept w (o .0) (ready-one w (a .0) (o .0) .row), n (w .new .0) (mem-here (w .new .0) (newPointers ws))), both-kept ws (a .1) (o .1) (λ p m. n p (mem-there p (w .new .0) (newPointers ws) m)))
+      let o = or-false (conflicts (S .heads) w) (any (conflicts (S .heads)) ws) c in (
+        (base-kept w (o .0) (ready-one w (a .0) (o .0) .row), n (w .new .0) (mem-here (w .new .0) (newPointers ws))),
+        both-kept ws (a .1) (o .1) (λ p m. n p (mem-there p (w .new .0) (newPointers ws) m)),
+      )
 
   -- so recycling changes no key that counts
   pub changes-recycled : (T : Store) → changes (applyAll (map putFree (recycled S x)) T) x ≡ changes T x

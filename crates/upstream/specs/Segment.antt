@@ -47,7 +47,13 @@ module _ (S : Store) (x : Tx) (logged : Bool) (plan : Schedule) where
       let I = take (count S x logged plan 15) (insertions S x) in
       let R = take (count S x logged plan 24) (map putRemove (reverse (take (count S x logged plan 15) (destinations (changes S x))))) in
       let Z = release S x in
-      rw f (rw (regroup G I R Z) (poisoned-after ((G ++ (I ++ R)) ++ putPoison ∷ Z) S ∙ or-left (poisons ((G ++ (I ++ R)) ++ putPoison ∷ Z)) (S .poisoned) (poisons-mid (G ++ (I ++ R)) Z)), refl, refl)
+      rw f (
+        rw (regroup G I R Z)
+            (poisoned-after ((G ++ (I ++ R)) ++ putPoison ∷ Z) S
+            ∙ or-left (poisons ((G ++ (I ++ R)) ++ putPoison ∷ Z)) (S .poisoned) (poisons-mid (G ++ (I ++ R)) Z)),
+        refl,
+        refl,
+      )
   only-failed _ _ _ f (uncalled p l k) h = clash h (called-not S x logged plan ten refl refl refl)
   only-failed _ _ _ f (spoils p k) h = clash h (spoil-not ten refl refl refl refl k _)
   only-failed _ _ _ f (unstamped p k) h = clash h refl

@@ -41,11 +41,13 @@ module _ (xmin seen : List ℕ) (t i : ℕ) where
     unfolding ownFrom
     own-free e = rw (array-cons places 0 xmin i lt, e, add-one)
 
-    pub own-not : (getD xmin i 0 ≡ 0 → ⊥) → {b : Bool} → b ≡ ownSlot (atPlaces xmin) seen t i → b ≡ false → ownFrom (atPlaces xmin) seen t i ≡ ownFrom (atPlaces xmin) seen t (i + 1)
+    pub own-not : (getD xmin i 0 ≡ 0 → ⊥) → {b : Bool} → b ≡ ownSlot (atPlaces xmin) seen t i → b ≡ false
+        → ownFrom (atPlaces xmin) seen t i ≡ ownFrom (atPlaces xmin) seen t (i + 1)
     unfolding ownFrom
     own-not n e f = rw (array-cons places 0 xmin i lt, ne-eqb (getD xmin i 0) 0 n, ← e, f, add-one)
 
-    pub own-here : (getD xmin i 0 ≡ 0 → ⊥) → {b : Bool} → b ≡ ownSlot (atPlaces xmin) seen t i → b ≡ true → ownFrom (atPlaces xmin) seen t i ≡ i ∷ ownFrom (atPlaces xmin) seen t (i + 1)
+    pub own-here : (getD xmin i 0 ≡ 0 → ⊥) → {b : Bool} → b ≡ ownSlot (atPlaces xmin) seen t i → b ≡ true
+        → ownFrom (atPlaces xmin) seen t i ≡ i ∷ ownFrom (atPlaces xmin) seen t (i + 1)
     unfolding ownFrom
     own-here n e f = rw (array-cons places 0 xmin i lt, ne-eqb (getD xmin i 0) 0 n, ← e, f, add-one)
 

@@ -4,12 +4,12 @@ ghost use mathlib.Core.Path.{_≡_};
 ghost use Rattle.rules.specs.Calls.{visibleVersion};
 ghost use Rattle.fields.specs.Lent.{atRows, atPlaces};
 use super::sees_by;
-use records::RowId;
-use records::SlotPtr;
-use records::Tx;
 use fields::lent::head_of;
 use fields::lent::pointer_at;
 use fields::lent::txid_at;
+use records::RowId;
+use records::SlotPtr;
+use records::Tx;
 
 // The first version of the row's chain with a visible creator, null if there is none. A chain has no more versions than there are places.
 pub fn visible_version<'a>(

@@ -14,9 +14,9 @@ mod own;
 pub mod own_slots;
 pub mod slots;
 
+use fields::txids::in_snapshot;
 use records::Tx;
 use records::Txid;
-use fields::txids::in_snapshot;
 
 // The same as `sees`, from the parts of the transaction that it reads.
 fn sees_by(snapshot: &[u64; Txid::ACTIVE], count: usize, reader: Txid, end: Txid, t: Txid) -> bool

@@ -2,10 +2,10 @@
 
 ghost use mathlib.Core.Path.{_≡_};
 ghost use Rattle.rules.specs.Transaction.{lastOwn, writesOf};
+use fields::lent::clipped;
 use records::RowId;
 use records::Tx;
 use records::Write;
-use fields::lent::clipped;
 
 // The last own write of a row; its new pointer is null if there is none.
 pub fn last_own(x: Tx, r: RowId) -> Write

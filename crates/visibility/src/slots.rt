@@ -5,13 +5,13 @@ ghost use Rattle.rules.specs.Store.{valueAt};
 ghost use Rattle.rules.specs.Calls.{lowestFree};
 ghost use Rattle.fields.specs.Lent.{atPlaces, flagsAtPlaces};
 ghost use Rattle.visibility.specs.Slots.{ownSlot};
-use records::SlotPtr;
-use records::Txid;
-use records::Value;
 use fields::lent::flag_at;
 use fields::lent::key_at;
 use fields::lent::mark_at;
 use fields::lent::txid_at;
+use records::SlotPtr;
+use records::Txid;
+use records::Value;
 
 // The lowest free slot, null if there is none.
 pub fn lowest_free(xmin: &[u64; SlotPtr::PLACES]) -> SlotPtr

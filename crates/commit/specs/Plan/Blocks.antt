@@ -30,7 +30,8 @@ use Rattle.commit.specs.Plan.Publish.{publishing, publishing-whole}
 use Rattle.commit.specs.Plan.Moves.{codesOf, changedMarks}
 use Rattle.commit.specs.Plan.Guards.{guardedMarks, partitionMarks}
 use Rattle.commit.specs.Plan.Own.{recycledMarks}
-use Rattle.commit.specs.Plan.Few.{Marked, changed-are, guarded-are, partitions-are, recycled-are, index-guards-few, partition-guards-few, destinations-fit, sources-fit}
+use Rattle.commit.specs.Plan.Few.{Marked, changed-are, guarded-are, partitions-are, recycled-are}
+use Rattle.commit.specs.Plan.Few.{index-guards-few, partition-guards-few, destinations-fit, sources-fit}
 
 -- what `push_marked`, `push_listed` and `push_back` ensure
 abbrev pub MarksPut : List ℕ → ℕ → List ℕ → ℕ → ℕ → ℕ → ℕ → List Bool → Type 0
@@ -59,7 +60,8 @@ take-map f (suc k) (x ∷ l) = ap (λ (t : List Put). f x ∷ t) (take-map f k l
 
 module _ {j after : List ℕ} {n r : ℕ} where
   -- the first `limit` puts of one kind and value for numbers that are marked
-  marks-put : (kind val limit : ℕ) {m k : List Bool} {l : List ℕ} {size : ℕ} → m ≡ k → Marked k l size → size ≤ placeBase → kind ≤ lastKind → narrow kind ≡ false
+  marks-put : (kind val limit : ℕ) {m k : List Bool} {l : List ℕ} {size : ℕ} → m ≡ k → Marked k l size → size ≤ placeBase → kind ≤ lastKind
+      → narrow kind ≡ false
       → MarksPut j n after r kind val limit m → Adds j n (take limit (map (λ p. put kind p val) l)) after r
   marks-put kind val limit {m} {k} {l} e h room low wide a =
       let long : length m ≡ length k = ap length e in
@@ -68,11 +70,13 @@ module _ {j after : List ℕ} {n r : ℕ} where
       rw are at (marked-add kind val limit m (omega arith) low wide a)
 
   -- of a list laid out, the first `limit`; and the first `made`, the last first
-  list-put : (kind limit count : ℕ) {k : Codes} (l : List ℕ) → k ≡ codesOf l → length l ≤ writeLimit → count ≡ min limit (k .count) → kind ≤ lastKind → narrow kind ≡ false
+  list-put : (kind limit count : ℕ) {k : Codes} (l : List ℕ) → k ≡ codesOf l → length l ≤ writeLimit → count ≡ min limit (k .count) → kind ≤ lastKind
+      → narrow kind ≡ false
       → ListPut j n after r kind count (k .at) → Adds j n (take limit (map (λ c. put kind 0 c) l)) after r
   unfolding listed codesOf
   list-put kind limit count l e h q low wide a =
-      let first = take-map (λ c. put kind 0 c) (min limit (length l)) (pad writeLimit 0 l) ∙ ap (map (λ c. put kind 0 c)) (pad-first limit writeLimit l h) ∙ sym (take-map (λ c. put kind 0 c) limit l) in
+      let first = take-map (λ c. put kind 0 c) (min limit (length l)) (pad writeLimit 0 l)
+      ∙ ap (map (λ c. put kind 0 c)) (pad-first limit writeLimit l h) ∙ sym (take-map (λ c. put kind 0 c) limit l) in
       rw first at (rw (q, e) at (a low wide))
 
   back-put : (made limit from : ℕ) {k : Codes} (l : List ℕ) → k ≡ codesOf l → length l ≤ writeLimit → from ≡ min made (k .count)
@@ -89,9 +93,11 @@ module _ {j after : List ℕ} {n r : ℕ} where
   unfolding indexGuards
   index-guards S x t e ok a = whole stripes (index-guards-few S x ok t) (marks-put kStripe t stripes e (guarded-are S x ok) stripes-placed (omega arith) refl a)
 
-  pub partition-guards : (x : Tx) (t : ℕ) {m : List Bool} → m ≡ partitionMarks x → MarksPut j n after r kPartition t partitions m → Adds j n (partitionGuards x t) after r
+  pub partition-guards : (x : Tx) (t : ℕ) {m : List Bool} → m ≡ partitionMarks x → MarksPut j n after r kPartition t partitions m
+      → Adds j n (partitionGuards x t) after r
   unfolding partitionGuards
-  partition-guards x t e a = whole partitions (partition-guards-few x t) (marks-put kPartition t partitions e (partitions-are x) partitions-placed (omega arith) refl a)
+  partition-guards x t e a =
+      whole partitions (partition-guards-few x t) (marks-put kPartition t partitions e (partitions-are x) partitions-placed (omega arith) refl a)
 
   pub stamps : (S : Store) (x : Tx) (t limit : ℕ) {m : List Bool} → m ≡ changedMarks (changes S x) → t ≡ x .txid .0
       → MarksPut j n after r kStamp t limit m → Adds j n (take limit (stamping S x)) after r
@@ -113,7 +119,8 @@ module _ {j after : List ℕ} {n r : ℕ} where
   unfolding removals
   removes S x limit count e ok q a = list-put kRemove limit count (sources (changes S x)) e (sources-fit S x ok) q (omega arith) refl a
 
-  pub rolls-back : (S : Store) (x : Tx) (made limit from : ℕ) {k : Codes} → k ≡ codesOf (destinations (changes S x)) → fit S x ≡ true → from ≡ min made (k .count)
+  pub rolls-back : (S : Store) (x : Tx) (made limit from : ℕ) {k : Codes} → k ≡ codesOf (destinations (changes S x)) → fit S x ≡ true
+      → from ≡ min made (k .count)
       → BackPut j n after r kRemove limit from (k .at) → Adds j n (take limit (map putRemove (reverse (take made (destinations (changes S x)))))) after r
   rolls-back S x made limit from e ok q a = back-put made limit from (destinations (changes S x)) e (destinations-fit S x ok) q a
 

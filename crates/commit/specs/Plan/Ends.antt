@@ -62,14 +62,23 @@ module _ {j after : List ℕ} {n r : ℕ} where
   poisons-called true t g e a = rw e a
   poisons-called false t g e a = rw e a
 
-pub poisons-none : (b : Bool) (t g : ℕ) → (g ≡ callbackEnded → ⊥) → (g ≡ removeFailed → ⊥) → (g ≡ stampFailed → ⊥) → (g ≡ publishFailed → ⊥) → (g ≡ recycleFailed → ⊥) → (g ≡ finishFailed → ⊥) → poisonsOf b t g ≡ []
+pub poisons-none : (b : Bool) (t g : ℕ) → (g ≡ callbackEnded → ⊥) → (g ≡ removeFailed → ⊥) → (g ≡ stampFailed → ⊥) → (g ≡ publishFailed → ⊥)
+    → (g ≡ recycleFailed → ⊥) → (g ≡ finishFailed → ⊥) → poisonsOf b t g ≡ []
 poisons-none b t g call remove stamp publish recycle finish =
-    rw (ne-eqb g callbackEnded call, ne-eqb g removeFailed remove, ne-eqb g stampFailed stamp, ne-eqb g publishFailed publish, ne-eqb g recycleFailed recycle, ne-eqb g finishFailed finish)
+    rw (
+      ne-eqb g callbackEnded call,
+      ne-eqb g removeFailed remove,
+      ne-eqb g stampFailed stamp,
+      ne-eqb g publishFailed publish,
+      ne-eqb g recycleFailed recycle,
+      ne-eqb g finishFailed finish,
+    )
 
 -- a rollback, failed after some removals or whole; an abort that fails at once, or whole
 module _ (S : Store) (x : Tx) (logged : Bool) (plan : Schedule) (already : Bool) {j after : List ℕ} {n r : ℕ} where
   module _ (s : Struck) (h : s ≡ struckOf S x logged plan) (ok : fit S x ≡ true) (made : ℕ) where
-    pub rolled-part : {j′ : List ℕ} {k : ℕ} → s .rollback ≡ true → Adds j n (take (s .rolled) (map putRemove (reverse (take made (destinations (changes S x)))))) j′ k
+    pub rolled-part : {j′ : List ℕ} {k : ℕ} → s .rollback ≡ true
+        → Adds j n (take (s .rolled) (map putRemove (reverse (take made (destinations (changes S x)))))) j′ k
         → Adds j′ k (poison already) after r → Adds j n (rollback S x logged plan already (take made (destinations (changes S x))) .puts) after r
     unfolding rollback
     rolled-part e a b = rw (sym (rollback-is S x logged plan h) ∙ e) (adds-then (rw (rolled-is S x logged plan h) at a) b)
@@ -81,14 +90,16 @@ module _ (S : Store) (x : Tx) (logged : Bool) (plan : Schedule) (already : Bool)
         let d = destinations (changes S x) in
         let back = map putRemove (reverse (take made d)) in
         let few = destinations-fit S x ok in
-        let room : length back ≤ putLimit = omega (arith, length-map (reverse (take made d)) putRemove, length-reverse (take made d), length-take made d, run-puts) in
+        let room : length back ≤ putLimit =
+        omega (arith, length-map (reverse (take made d)) putRemove, length-reverse (take made d), length-take made d, run-puts) in
         rw (sym (rollback-is S x logged plan h) ∙ e) (rw (take-all putLimit back room) at a)
 
   pub aborted-not : fails S x logged plan 23 ≡ true → Adds j n (poison already) after r → Adds j n (abortOrPoison S x logged plan already .puts) after r
   unfolding abortOrPoison
   aborted-not e a = rw e a
 
-  pub aborted-whole : fails S x logged plan 23 ≡ false → Adds j n (abortPuts S (x .txid .0)) after r → Adds j n (abortOrPoison S x logged plan already .puts) after r
+  pub aborted-whole : fails S x logged plan 23 ≡ false → Adds j n (abortPuts S (x .txid .0)) after r
+      → Adds j n (abortOrPoison S x logged plan already .puts) after r
   unfolding abortOrPoison
   aborted-whole e a = rw e a
 
@@ -97,20 +108,25 @@ undoing-failed : (S : Store) (x : Tx) (logged : Bool) (plan : Schedule) → undo
 unfolding rollback
 undoing-failed S x logged plan = by (fails S x logged plan 24) (λ e. rw e) (λ e. rw e)
 
-module _ {S : Store} {x : Tx} {logged : Bool} {plan : Schedule} {p : Plan} {s : Struck} (h : Planned S x logged plan p s) (g : ℕ) {j after : List ℕ} {n r : ℕ} where
-  pub undoes-insert : g ≡ insertFailed → Adds j n (rollback S x logged plan false (take (s .inserted) (destinations (changes S x))) .puts) after r → Adds j n (undoes S x logged plan g) after r
+module _ {S : Store} {x : Tx} {logged : Bool} {plan : Schedule} {p : Plan} {s : Struck} (h : Planned S x logged plan p s) (g : ℕ)
+    {j after : List ℕ} {n r : ℕ} where
+  pub undoes-insert : g ≡ insertFailed → Adds j n (rollback S x logged plan false (take (s .inserted) (destinations (changes S x))) .puts) after r
+      → Adds j n (undoes S x logged plan g) after r
   unfolding undoes
   undoes-insert e a = rw e (rw (inserted-is S x logged plan (h .strikes)) at a)
 
-  pub undoes-call : g ≡ callbackEnded → Adds j n (rollback S x logged plan (s .worse) (take writeLimit (destinations (changes S x))) .puts) after r → Adds j n (undoes S x logged plan g) after r
+  pub undoes-call : g ≡ callbackEnded → Adds j n (rollback S x logged plan (s .worse) (take writeLimit (destinations (changes S x))) .puts) after r
+      → Adds j n (undoes S x logged plan g) after r
   unfolding undoes
   undoes-call e a = rw e (rw (worse-is S x logged plan (h .strikes), take-all writeLimit (destinations (changes S x)) (destinations-fit S x (h .fits))) at a)
 
-  pub drops-call : {already : Bool} → already ≡ (s .worse || s .rollback) → g ≡ callbackEnded → Adds j n (abortOrPoison S x logged plan already .puts) after r → Adds j n (drops S x logged plan g) after r
+  pub drops-call : {already : Bool} → already ≡ (s .worse || s .rollback) → g ≡ callbackEnded
+      → Adds j n (abortOrPoison S x logged plan already .puts) after r → Adds j n (drops S x logged plan g) after r
   unfolding drops
   drops-call q e a = rw (e, undoing-failed S x logged plan) (rw (q, worse-is S x logged plan (h .strikes), rollback-is S x logged plan (h .strikes)) at a)
 
-  pub drops-finish : removeFailed < g → g < finishFailed → s .finish ≡ false → Adds j n (putDrop (p .txid) ∷ []) after r → Adds j n (drops S x logged plan g) after r
+  pub drops-finish : removeFailed < g → g < finishFailed → s .finish ≡ false → Adds j n (putDrop (p .txid) ∷ []) after r
+      → Adds j n (drops S x logged plan g) after r
   unfolding drops
   drops-finish lo hi e a = rw (between g lo hi, ne-eqb g callbackEnded (omega arith), sym (finish-is S x logged plan (h .strikes)) ∙ e) (rw (txid-is h) at a)
     where
@@ -124,7 +140,8 @@ module _ {S : Store} {x : Tx} {logged : Bool} {plan : Schedule} {p : Plan} {s : 
 module _ {S : Store} {x : Tx} {logged : Bool} {plan : Schedule} {p : Plan} {s : Struck} (h : Planned S x logged plan p s) (g : ℕ) where
   pub drops-failed : removeFailed < g → g < finishFailed → s .finish ≡ true → drops S x logged plan g ≡ []
   unfolding drops
-  drops-failed lo hi e = rw (ne-eqb g callbackEnded (omega arith), sym (finish-is S x logged plan (h .strikes)) ∙ e) (same (eqb g publishFailed || eqb g recycleFailed))
+  drops-failed lo hi e =
+      rw (ne-eqb g callbackEnded (omega arith), sym (finish-is S x logged plan (h .strikes)) ∙ e) (same (eqb g publishFailed || eqb g recycleFailed))
     where
       same : (b : Bool) → _≡_ {A = List Put} (cond b [] []) []
       same true = refl
@@ -144,9 +161,11 @@ module _ (S : Store) (x : Tx) (logged : Bool) (plan : Schedule) (g : ℕ) where
   dies-not e = rw e
 
 -- all of them
-module _ {S : Store} {x : Tx} {logged : Bool} {plan : Schedule} {p : Plan} {s : Struck} (h : Planned S x logged plan p s) (g : ℕ) {j₀ j₁ j₂ j₃ j₄ j₅ j₆ j₇ : List ℕ} {n₀ n₁ n₂ n₃ n₄ n₅ n₆ n₇ : ℕ} where
+module _ {S : Store} {x : Tx} {logged : Bool} {plan : Schedule} {p : Plan} {s : Struck} (h : Planned S x logged plan p s) (g : ℕ)
+    {j₀ j₁ j₂ j₃ j₄ j₅ j₆ j₇ : List ℕ} {n₀ n₁ n₂ n₃ n₄ n₅ n₆ n₇ : ℕ} where
   pub run-put : Adds j₀ n₀ (taken S x logged plan g) j₁ n₁ → Adds j₁ n₁ (passed S x logged plan g) j₂ n₂ → Adds j₂ n₂ (poisonsOf (s .worse) (p .txid) g) j₃ n₃
-      → Adds j₃ n₃ (undoes S x logged plan g) j₄ n₄ → Adds j₄ n₄ (drops S x logged plan g) j₅ n₅ → Adds j₅ n₅ (lets S x logged plan g) j₆ n₆ → Adds j₆ n₆ (dies S x logged plan g) j₇ n₇
+      → Adds j₃ n₃ (undoes S x logged plan g) j₄ n₄ → Adds j₄ n₄ (drops S x logged plan g) j₅ n₅ → Adds j₅ n₅ (lets S x logged plan g) j₆ n₆
+      → Adds j₆ n₆ (dies S x logged plan g) j₇ n₇
       → Adds j₀ n₀ (putsAt S x logged plan g) j₇ n₇
   unfolding putsAt stored poisons
   run-put a b c d e f k =

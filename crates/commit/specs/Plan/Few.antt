@@ -14,12 +14,14 @@ use Rattle.rules.specs.Types.{Store, Tx, Write}
 use Rattle.rules.specs.Transaction.{writesOf, finals}
 use Rattle.rules.specs.Chains.{walk}
 use Rattle.rules.specs.Fit.{countsFit, fit}
-use Rattle.rules.specs.Changes.{Change, changes, destinations, sources, changedStripes, guardedStripes, guardedPartitions, indexGuards, partitionGuards, release, publishOne, insertions, removals, publication, recycled, recycling, stamping}
+use Rattle.rules.specs.Changes.{Change, changes, destinations, sources, changedStripes, guardedStripes, guardedPartitions, indexGuards}
+use Rattle.rules.specs.Changes.{partitionGuards, release, publishOne, insertions, removals, publication, recycled, recycling, stamping}
 use Rattle.run_laws.specs.FinalWrites.{finals-few}
 use Rattle.basic_laws.specs.TestParts.{fit-parts}
 use Rattle.fields.specs.Marks.{markedFrom, marked-few}
 use Rattle.commit.specs.Plan.Moves.{changedMarks, destinations-few, sources-few, changes-few}
-use Rattle.commit.specs.Plan.Guards.{guardedMarks, partitionMarks, fit-reads, changed-marked, guarded-marked, partitions-marked, changed-long, guarded-long, partitions-long}
+use Rattle.commit.specs.Plan.Guards.{guardedMarks, partitionMarks, fit-reads, changed-marked, guarded-marked}
+use Rattle.commit.specs.Plan.Guards.{partitions-marked, changed-long, guarded-long, partitions-long}
 use Rattle.commit.specs.Plan.Own.{recycledMarks, recycled-marked, recycled-long}
 
 -- n flags, which mark the numbers of l, rising

@@ -52,7 +52,8 @@ low-stripes (Key k) = rw (lt-ltb (stripeOf k) stripes (omega arith))
 low-changed : (cs : List Change) → all (λ r. ltb r stripes) (flat stripesOf cs) ≡ true
 low-changed [] = refl
 low-changed (c ∷ cs) =
-    all-append _ (stripesOf c) (flat stripesOf cs) (all-append _ (stripesIn (c .before)) (stripesIn (c .after)) (low-stripes (c .before)) (low-stripes (c .after))) (low-changed cs)
+    all-append _ (stripesOf c) (flat stripesOf cs)
+    (all-append _ (stripesIn (c .before)) (stripesIn (c .after)) (low-stripes (c .before)) (low-stripes (c .after))) (low-changed cs)
 
 low-partitions {ℓ} : {A : Type ℓ} (f : A → ℕ) (l : List A) → all (λ r. ltb r partitions) (map (λ a. partitionOf (f a)) l) ≡ true
 low-partitions f [] = refl
@@ -82,7 +83,8 @@ unfolding guardedMarks changedMarks changedStripes guardedStripes noStripes
 guarded-marked cs x h =
     let l = flat stripesOf cs in
     let r = map stripeRead (indexReadsOf x) in
-    let e : markAll (inOrder l ++ r) (replicate stripes false) ≡ markAll r (markAll l (replicate stripes false)) = mark-append (inOrder l) r (replicate stripes false) ∙ ap (markAll r) (order-marks l (replicate stripes false)) in
+    let e : markAll (inOrder l ++ r) (replicate stripes false) ≡ markAll r (markAll l (replicate stripes false)) =
+    mark-append (inOrder l) r (replicate stripes false) ∙ ap (markAll r) (order-marks l (replicate stripes false)) in
     ap (markedFrom 0) (sym e) ∙ marks-in-order stripes (inOrder l ++ r) (all-append _ (inOrder l) r (order-all _ l (low-changed cs)) h)
 
 pub partitions-marked : (x : Tx) → markedFrom 0 (partitionMarks x) ≡ guardedPartitions x

@@ -17,7 +17,8 @@ use Rattle.commit.specs.Plan.Parts.{putsAt, puts-at}
 use Rattle.commit.specs.Plan.Planned.{Planned}
 
 -- g is the gate at which the run ends
-pub run-held : {S : Store} {x : Tx} {logged : Bool} {plan : Schedule} {p : Plan} {s : Struck} {j after : List ℕ} {r : ℕ} (g : ℕ) → Planned S x logged plan p s → g ≤ cleanGate
+pub run-held : {S : Store} {x : Tx} {logged : Bool} {plan : Schedule} {p : Plan} {s : Struck} {j after : List ℕ} {r : ℕ} (g : ℕ)
+    → Planned S x logged plan p s → g ≤ cleanGate
     → runOf S x logged plan .puts ≡ getD (map (λ h. h .then .puts) (gates S x logged plan) ++ clean S x logged plan .puts ∷ []) g (clean S x logged plan .puts)
     → Adds j 0 (putsAt S x logged plan g) after r → Holds after r (runOf S x logged plan .puts)
 run-held {S} {x} {logged} {plan} g h le at a =

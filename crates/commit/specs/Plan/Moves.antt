@@ -88,10 +88,13 @@ module _ (k : Moves) (c : Change) (cs : List Change) (is : k ≡ movesOf cs) (ro
       → _≡_ {A = Moves} (record { into = a; out = b; stripes = t }) (movesOf (cs ++ c ∷ []))
   unfolding movesOf destinations sources changedMarks
   change-more {a} {b} {s} {t} f g p q =
-      let i : a ≡ codesOf (destinations (cs ++ c ∷ [])) = f (destinations cs) (ap (λ m. m .into) is) (omega (arith, destinations-few cs)) ∙ ap codesOf (sym (flat-append _ cs c)) in
-      let o : b ≡ codesOf (sources (cs ++ c ∷ [])) = g (sources cs) (ap (λ m. m .out) is) (omega (arith, sources-few cs)) ∙ ap codesOf (sym (flat-append _ cs c)) in
+      let i : a ≡ codesOf (destinations (cs ++ c ∷ [])) =
+      f (destinations cs) (ap (λ m. m .into) is) (omega (arith, destinations-few cs)) ∙ ap codesOf (sym (flat-append _ cs c)) in
+      let o : b ≡ codesOf (sources (cs ++ c ∷ [])) =
+      g (sources cs) (ap (λ m. m .out) is) (omega (arith, sources-few cs)) ∙ ap codesOf (sym (flat-append _ cs c)) in
       let st : k .stripes ≡ changedMarks cs = ap (λ m. m .stripes) is in
-      let m : t ≡ changedMarks (cs ++ c ∷ []) = rw (q, p, st, flat-append stripesOf cs c, mark-append (flat stripesOf cs) (stripesOf c) noStripes) (sym (mark-append (stripesIn (c .before)) (stripesIn (c .after)) (changedMarks cs))) in
+      let m : t ≡ changedMarks (cs ++ c ∷ []) = rw (q, p, st, flat-append stripesOf cs c, mark-append (flat stripesOf cs) (stripesOf c) noStripes)
+      (sym (mark-append (stripesIn (c .before)) (stripesIn (c .after)) (changedMarks cs))) in
       λ n. record { into = i n; out = o n; stripes = m n }
 
 -- the changes of the first writes
@@ -121,15 +124,25 @@ module _ (key : List ℕ) (has : List Bool) (at : List Write) (count : ℕ) wher
       omega (arith, changes-few key has (take i (map low (take count at))), length-take i (map low (take count at)))
 
   -- the next write: it changes a value, or not
-  module _ (i : ℕ) (lt : i < min count (length at)) (b a : Value) (base : b ≡ valueAt key has (getD at i noWrite .base .0)) (new : a ≡ valueAt key has (getD at i noWrite .new .0)) where
+  module _ (i : ℕ) (lt : i < min count (length at)) (b a : Value) (base : b ≡ valueAt key has (getD at i noWrite .base .0))
+      (new : a ≡ valueAt key has (getD at i noWrite .new .0)) where
     next : changesTo (i + 1) ≡ changesTo i ++ those (λ c. not (sameValue (c .before) (c .after))) (change (getD at i noWrite .row .0 % rows) b a ∷ [])
     unfolding changesTo indexChanges
     next =
         let ws = map low (take count at) in
         let long = length-map (take count at) low in
         let some = length-take count at in
-        let w : getD ws i noWrite ≡ low (getD at i noWrite) = List·getD-map low (take count at) i noWrite ∙ ap low (getD-take count at i noWrite (omega arith)) in
-        rw (add-one, take-suc ws i noWrite (omega arith), w, map-append (changeOf key has) (take i ws) (low (getD at i noWrite)), those-append (λ c. not (sameValue (c .before) (c .after))) (map (changeOf key has) (take i ws)) (changeOf key has (low (getD at i noWrite))), base, new)
+        let w : getD ws i noWrite ≡ low (getD at i noWrite) =
+        List·getD-map low (take count at) i noWrite ∙ ap low (getD-take count at i noWrite (omega arith)) in
+        rw (
+          add-one,
+          take-suc ws i noWrite (omega arith),
+          w,
+          map-append (changeOf key has) (take i ws) (low (getD at i noWrite)),
+          those-append (λ c. not (sameValue (c .before) (c .after))) (map (changeOf key has) (take i ws)) (changeOf key has (low (getD at i noWrite))),
+          base,
+          new,
+        )
 
     pub next-same : sameValue b a ≡ true → changesTo (i + 1) ≡ changesTo i
     next-same e = next ∙ rw e (append-nil (changesTo i))

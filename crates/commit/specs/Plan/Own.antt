@@ -83,7 +83,8 @@ unmark-all (r ∷ l) m =
 unfoldable pub recycledMarks : List ℕ → List ℕ → Tx → List Bool
 recycledMarks xmin seen x = unmarkAll (map newOf (finals x)) (ownMarks xmin seen (x .txid .0))
 
-pub recycled-marked : (S : Store) (x : Tx) → length (S .xmin) ≤ places → markedFrom 0 (recycledMarks (S .xmin) (walk (S .heads) (S .next) .seen) x) ≡ recycled S x
+pub recycled-marked : (S : Store) (x : Tx) → length (S .xmin) ≤ places
+    → markedFrom 0 (recycledMarks (S .xmin) (walk (S .heads) (S .next) .seen) x) ≡ recycled S x
 unfolding recycledMarks recycled
 recycled-marked S x h =
     unmark-all (map newOf (finals x)) (ownMarks (S .xmin) (walk (S .heads) (S .next) .seen) (x .txid .0))

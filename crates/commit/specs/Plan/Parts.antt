@@ -96,6 +96,8 @@ module _ (S : Store) (x : Tx) (logged : Bool) (plan : Schedule) where
   last-puts = simp (append-assoc, append-nil)
 
   -- so they are the puts of commit's gates
-  pub puts-at : (g : ℕ) → g ≤ cleanGate → getD (map (λ g. g .then .puts) (gates S x logged plan) ++ clean S x logged plan .puts ∷ []) g (clean S x logged plan .puts) ≡ putsAt g
+  pub puts-at : (g : ℕ) → g ≤ cleanGate
+      → getD (map (λ g. g .then .puts) (gates S x logged plan) ++ clean S x logged plan .puts ∷ []) g (clean S x logged plan .puts) ≡ putsAt g
   puts-at g h =
-      rw (all-puts, last-puts) (List·getD-map putsAt (countFrom 0 (suc cleanGate)) g cleanGate ∙ ap putsAt (count-at 0 (suc cleanGate) g cleanGate (omega arith) ∙ zero-add g))
+      rw (all-puts, last-puts)
+      (List·getD-map putsAt (countFrom 0 (suc cleanGate)) g cleanGate ∙ ap putsAt (count-at 0 (suc cleanGate) g cleanGate (omega arith) ∙ zero-add g))

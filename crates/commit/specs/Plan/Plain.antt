@@ -37,7 +37,9 @@ pub finals-plain : (S : Store) (x : Tx) → fit S x ≡ true → all plain (fina
 unfolding finals
 finals-plain S x h =
     finals-all plain (writesOf x) (all-follows _ plain (writesOf x) (λ w f.
-    let p = write-parts (S .xmin) (S .next) (walk (S .heads) (S .next) .seen) (x .txid .0) w f in and-both (ltb (w .row .0) rows) _ (p .row) (and-both (leb (w .base .0) slots) (leb (w .new .0) slots) (p .base) (p .new))) (fit-parts S x h .writes))
+    let p = write-parts (S .xmin) (S .next) (walk (S .heads) (S .next) .seen) (x .txid .0) w f in
+    and-both (ltb (w .row .0) rows) _ (p .row) (and-both (leb (w .base .0) slots) (leb (w .new .0) slots) (p .base) (p .new)))
+    (fit-parts S x h .writes))
 
 -- a write with its row brought below the limit: how code reads one that it knows nothing of
 abbrev pub low : Write → Write

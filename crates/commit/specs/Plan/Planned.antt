@@ -17,7 +17,8 @@ use Rattle.rules.specs.Transaction.{indexReadsOf, finals}
 use Rattle.rules.specs.Chains.{walk}
 use Rattle.rules.specs.Fit.{fit}
 use Rattle.rules.specs.Puts.{Put, putDrop}
-use Rattle.rules.specs.Changes.{indexChanges, changes, destinations, sources, indexGuards, partitionGuards, insertions, removals, publication, recycling, stamping}
+use Rattle.rules.specs.Changes.{indexChanges, changes, destinations, sources, indexGuards}
+use Rattle.rules.specs.Changes.{partitionGuards, insertions, removals, publication, recycling, stamping}
 use Rattle.rules.specs.Commit.{fails, count, rollback}
 use Rattle.run_laws.specs.Outcome.{worse}
 use Rattle.journal.specs.Journal.{putLimit}
@@ -131,8 +132,10 @@ module _ {S : Store} {x : Tx} {logged : Bool} {plan : Schedule} {p : Plan} {s : 
 
   -- guards and postings; rows
   pub taken-put : (g : ℕ) {j₀ j₁ j₂ j₃ j₄ : List ℕ} {n₀ n₁ n₂ n₃ n₄ l m : ℕ}
-      → Adds j₀ n₀ (after partitionGuardsFailed g (indexGuards S x (p .txid))) j₁ n₁ → Adds j₁ n₁ (after unloggedCheckFailed g (partitionGuards x (p .txid))) j₂ n₂
-      → l ≡ limitAt g insertFailed (s .inserted) → Adds j₂ n₂ (take l (insertions S x)) j₃ n₃ → m ≡ limitAt g removeFailed (s .removed) → Adds j₃ n₃ (take m (removals S x)) j₄ n₄
+      → Adds j₀ n₀ (after partitionGuardsFailed g (indexGuards S x (p .txid))) j₁ n₁
+      → Adds j₁ n₁ (after unloggedCheckFailed g (partitionGuards x (p .txid))) j₂ n₂
+      → l ≡ limitAt g insertFailed (s .inserted) → Adds j₂ n₂ (take l (insertions S x)) j₃ n₃ → m ≡ limitAt g removeFailed (s .removed)
+      → Adds j₃ n₃ (take m (removals S x)) j₄ n₄
       → Adds j₀ n₀ (taken S x logged plan g) j₄ n₄
   unfolding taken struckOf
   taken-put g {l = l} {m = m} a b e c f d =
@@ -144,7 +147,8 @@ module _ {S : Store} {x : Tx} {logged : Bool} {plan : Schedule} {p : Plan} {s : 
       (adds-then (limited g insertFailed _ l (insertions S x) in-room (rw i at e) c) (limited g removeFailed _ m (removals S x) out-room (rw r at f) d)))
 
   pub passed-put : (g : ℕ) {j₀ j₁ j₂ j₃ j₄ : List ℕ} {n₀ n₁ n₂ n₃ n₄ l m k : ℕ}
-      → l ≡ limitAt g publishFailed (s .published) → Adds j₀ n₀ (take l (publication x)) j₁ n₁ → m ≡ limitAt g recycleFailed (s .recycled) → Adds j₁ n₁ (take m (recycling S x)) j₂ n₂
+      → l ≡ limitAt g publishFailed (s .published) → Adds j₀ n₀ (take l (publication x)) j₁ n₁ → m ≡ limitAt g recycleFailed (s .recycled)
+      → Adds j₁ n₁ (take m (recycling S x)) j₂ n₂
       → Adds j₂ n₂ (after stampFailed g (putDrop (p .txid) ∷ [])) j₃ n₃ → k ≡ limitAt g stampFailed (s .stamped) → Adds j₃ n₃ (take k (stamping S x)) j₄ n₄
       → Adds j₀ n₀ (passed S x logged plan g) j₄ n₄
   unfolding passed struckOf
@@ -179,16 +183,40 @@ planFrom key has xmin seen x at size =
 module _ (x : Tx) (key xmin seen : List ℕ) (has : List Bool) (at : List Write) (size : ℕ) where
   -- part by part, as code computes it
   pub plan-from : {m : Moves} {guarded partitioned own recycled : List Bool}
-      → m ≡ movesOf (indexChanges key has (map low (take size at))) → guarded ≡ markAll (map stripeRead (indexReadsOf x)) (m .stripes) → partitioned ≡ partitionMarks x
+      → m ≡ movesOf (indexChanges key has (map low (take size at))) → guarded ≡ markAll (map stripeRead (indexReadsOf x)) (m .stripes)
+      → partitioned ≡ partitionMarks x
       → own ≡ ownMarks xmin seen (x .txid .0) → recycled ≡ unmarkAll (map newOf (take size at)) own
-      → _≡_ {A = Plan} (record { txid = x .txid .0; at = at; count = size; into = m .into; out = m .out; changed = m .stripes; stripes = guarded; partitions = partitioned; own = own; recycled = recycled }) (planFrom key has xmin seen x at size)
+      → _≡_ {A = Plan} (record {
+        txid = x .txid .0;
+        at = at;
+        count = size;
+        into = m .into;
+        out = m .out;
+        changed = m .stripes;
+        stripes = guarded;
+        partitions = partitioned;
+        own = own;
+        recycled = recycled;
+      }) (planFrom key has xmin seen x at size)
   unfolding planFrom movesOf guardedMarks
   plan-from mv g p o r =
-      λ i. record { txid = x .txid .0; at = at; count = size; into = mv i .into; out = mv i .out; changed = mv i .stripes; stripes = (g ∙ ap (λ q. markAll (map stripeRead (indexReadsOf x)) (q .stripes)) mv) i; partitions = p i; own = o i; recycled = (r ∙ ap (unmarkAll (map newOf (take size at))) o) i }
+      λ i. record {
+        txid = x .txid .0;
+        at = at;
+        count = size;
+        into = mv i .into;
+        out = mv i .out;
+        changed = mv i .stripes;
+        stripes = (g ∙ ap (λ q. markAll (map stripeRead (indexReadsOf x)) (q .stripes)) mv) i;
+        partitions = p i;
+        own = o i;
+        recycled = (r ∙ ap (unmarkAll (map newOf (take size at))) o) i;
+      }
 
   -- of a fit transaction, from the arrays of its store and its final writes, it is the plan of its commit
   pub plan-is : (S : Store)
-      → key ≡ S .key → has ≡ S .has → xmin ≡ S .xmin → seen ≡ walk (S .heads) (S .next) .seen → at ≡ pad writeLimit noWrite (finals x) → size ≡ length (finals x) → fit S x ≡ true
+      → key ≡ S .key → has ≡ S .has → xmin ≡ S .xmin → seen ≡ walk (S .heads) (S .next) .seen → at ≡ pad writeLimit noWrite (finals x)
+      → size ≡ length (finals x) → fit S x ≡ true
       → planFrom key has xmin seen x at size ≡ planOf S x
   unfolding planFrom planOf changes recycledMarks
   plan-is S k h t w a n ok =

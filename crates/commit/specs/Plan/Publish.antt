@@ -26,7 +26,9 @@ use Rattle.journal.specs.Pushing.{Pushing, pushing-more}
 
 -- the puts of a plain write can be journalled
 pub head-kept : (w : Write) → plain w ≡ true → Kept (putHead (w .row .0) (w .new .0))
-head-kept w p = let i = plain-parts w p in kept-small (putHead (w .row .0) (w .new .0)) (omega arith) (omega (arith, i .0, rows-placed)) (omega (arith, i .2, slots-narrow))
+head-kept w p =
+    let i = plain-parts w p in
+    kept-small (putHead (w .row .0) (w .new .0)) (omega arith) (omega (arith, i .0, rows-placed)) (omega (arith, i .2, slots-narrow))
 
 pub xmax-kept : (w : Write) (t : ℕ) → plain w ≡ true → Kept (putXmax (w .base .0) t)
 xmax-kept w t p = let i = plain-parts w p in kept-wide (putXmax (w .base .0) t) (omega arith) (omega (arith, i .1, slots-placed)) refl
@@ -57,7 +59,8 @@ module _ (t limit : ℕ) (w : Write) where
   unfolding ofWrite publishOne
   write-both l e = rw (ne-eqb (w .base .0) 0 e) (go limit l)
     where
-      go : (n : ℕ) → 1 < n → take n (putXmax (w .base .0) t ∷ putHead (w .row .0) (w .new .0) ∷ []) ≡ putXmax (w .base .0) t ∷ putHead (w .row .0) (w .new .0) ∷ []
+      go : (n : ℕ) → 1 < n
+          → take n (putXmax (w .base .0) t ∷ putHead (w .row .0) (w .new .0) ∷ []) ≡ putXmax (w .base .0) t ∷ putHead (w .row .0) (w .new .0) ∷ []
       go zero l = absurd (omega arith)
       go (suc zero) l = absurd (omega arith)
       go (suc (suc zero)) l = refl
@@ -109,7 +112,9 @@ module _ (t limit i count : ℕ) (at : List Write) {j₀ j after : List ℕ} {n�
       let long = length-take count at in
       let this : getD ws i noWrite ≡ w = getD-take count at i noWrite (omega arith) in
       let fine : plain w ≡ true = rw this at (all-at plain ws ok i noWrite (omega arith)) in
-      rw (e, s, ← size-same t w, add-one) (pushing-more (take limit (publishOne t w)) (rw (drop-cons ws i noWrite (omega arith), this, take-both limit (publishOne t w) (flat (publishOne t) (drop (suc i) ws))) at h) (a fine))
+      rw (e, s, ← size-same t w, add-one)
+      (pushing-more (take limit (publishOne t w))
+      (rw (drop-cons ws i noWrite (omega arith), this, take-both limit (publishOne t w) (flat (publishOne t) (drop (suc i) ws))) at h) (a fine))
 
 -- of the final writes it is the definition's
 pub publishing-whole : (x : Tx) (limit : ℕ) → publishing (x .txid .0) limit 0 (finals x) ≡ take limit (publication x)

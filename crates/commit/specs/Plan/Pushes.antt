@@ -37,7 +37,8 @@ module _ (kind : ℕ) (l : List ℕ) (i : ℕ) where
 
   -- one turn of the loop
   pub push-listed : (left : ℕ) {j₀ j after : List ℕ} {n₀ n r : ℕ} {block : List Put} → Pushing j₀ n₀ block (listed kind left i l) j n
-      → 0 < left → i < length l → kind ≤ lastKind → narrow kind ≡ false → Pushed j n (put kind 0 (getD l i 0)) after r → Pushing j₀ n₀ block (listed kind (left - 1) (i + 1) l) after r
+      → 0 < left → i < length l → kind ≤ lastKind → narrow kind ≡ false → Pushed j n (put kind 0 (getD l i 0)) after r
+      → Pushing j₀ n₀ block (listed kind (left - 1) (i + 1) l) after r
   push-listed left h m s k w p = pushing-next (rw (listed-take left m s) at h) (kept-wide (put kind 0 (getD l i 0)) k (omega arith) w) p
 
 -- the puts of one kind for the first i numbers of a list, the last first; the first `limit` of them

@@ -13,10 +13,12 @@ use Rattle.rules.specs.Fit.{fit}
 use Rattle.rules.specs.Puts.{Put, putRemove, putDrop, putPoison, putDoom}
 use Rattle.rules.specs.Changes.{changes, destinations, indexGuards, partitionGuards, release, insertions, removals, publication, recycling, stamping}
 use Rattle.rules.specs.Commit.{End, runOf, fails, count, poison, abortOrPoison, rollback, finish}
-use Rattle.run_laws.specs.Outcome.{Taken, neither, index, both, Spoil, unremoved, unpublished, unrecycled, unfinished, guardsTaken, afterStamp, worse, Outcome, done, stays, aborts, uninserted, uncalled, spoils, unstamped, outcome}
+use Rattle.run_laws.specs.Outcome.{Taken, neither, index, both, Spoil, unremoved, unpublished, unrecycled, unfinished, guardsTaken}
+use Rattle.run_laws.specs.Outcome.{afterStamp, worse, Outcome, done, stays, aborts, uninserted, uncalled, spoils, unstamped, outcome}
 use Rattle.journal.specs.Journal.{putLimit}
 use Rattle.visibility.specs.OwnMarks.{abort-puts, abort-few}
-use Rattle.commit.specs.Plan.Few.{index-guards-few, partition-guards-few, release-few, destinations-fit, insertions-few, removals-few, publication-few, recycling-few, stamping-few}
+use Rattle.commit.specs.Plan.Few.{index-guards-few, partition-guards-few, release-few, destinations-fit}
+use Rattle.commit.specs.Plan.Few.{insertions-few, removals-few, publication-few, recycling-few, stamping-few}
 
 -- at most n puts
 pub record Most (ps : List Put) (n : ℕ) : Type 0 where
@@ -59,13 +61,16 @@ module _ (S : Store) (x : Tx) (logged : Bool) (plan : Schedule) (ok : fit S x �
   rollback-most : (already : Bool) (made : List ℕ) → length made ≤ writeLimit → Most (rollback S x logged plan already made .puts) (suc writeLimit)
   unfolding rollback
   rollback-most already made h =
-      let back : Most (map putRemove (reverse made)) writeLimit = most-of (map putRemove (reverse made)) (omega (arith, length-map (reverse made) putRemove, length-reverse made)) in
+      let back : Most (map putRemove (reverse made)) writeLimit =
+      most-of (map putRemove (reverse made)) (omega (arith, length-map (reverse made) putRemove, length-reverse made)) in
       by (fails S x logged plan 24)
       (λ e. rw e (up (suc writeLimit) (join (part (count S x logged plan 24) back) (poison-most already)) (omega arith)))
       (λ e. rw e (up (suc writeLimit) back (omega arith)))
 
   guards : Most (guardsTaken S x logged plan) (stripes + partitions)
-  guards = join (most-of (indexGuards S x (x .txid .0)) (index-guards-few S x ok (x .txid .0))) (most-of (partitionGuards x (x .txid .0)) (partition-guards-few x (x .txid .0)))
+  guards =
+      join (most-of (indexGuards S x (x .txid .0)) (index-guards-few S x ok (x .txid .0)))
+      (most-of (partitionGuards x (x .txid .0)) (partition-guards-few x (x .txid .0)))
 
   leaving : Most (release S x) (stripes + partitions)
   leaving = most-of _ (release-few S x ok)
@@ -90,15 +95,28 @@ module _ (S : Store) (x : Tx) (logged : Bool) (plan : Schedule) (ok : fit S x �
 
   taken-most : {taken back : List Put} → Taken S x logged plan taken back → Most taken (stripes + partitions) × Most back (stripes + partitions)
   taken-most neither = (up (stripes + partitions) none (omega arith), up (stripes + partitions) none (omega arith))
-  taken-most index = (up (stripes + partitions) (most-of (indexGuards S x (x .txid .0)) (index-guards-few S x ok (x .txid .0))) (omega arith), up (stripes + partitions) (most-of (indexGuards S x 0) (index-guards-few S x ok 0)) (omega arith))
+  taken-most index = (
+    up (stripes + partitions) (most-of (indexGuards S x (x .txid .0)) (index-guards-few S x ok (x .txid .0))) (omega arith),
+    up (stripes + partitions) (most-of (indexGuards S x 0) (index-guards-few S x ok 0)) (omega arith),
+  )
   taken-most both = (guards, leaving)
 
-  spoil-most : {n : ℕ} {made some fin : List Put} {p : Put} {kind : Fate → Refusal} {y : Tx} {drops : Bool} → Spoil S x logged plan n made some p fin kind y drops
+  spoil-most : {n : ℕ} {made some fin : List Put} {p : Put} {kind : Fate → Refusal} {y : Tx} {drops : Bool}
+      → Spoil S x logged plan n made some p fin kind y drops
       → Most (made ++ (some ++ p ∷ fin ++ release S x)) putLimit
-  spoil-most (unremoved k) = up putLimit (join (join guards inserting) (join (join (part (count S x logged plan 17) removing) (one putPoison)) leaving)) (omega (arith, run-puts))
-  spoil-most (unpublished k) = up putLimit (join (join (join guards inserting) removing) (join (join (part (count S x logged plan 18) publishing) (join (one (putDoom (x .txid .0))) finishing)) leaving)) (omega (arith, run-puts))
-  spoil-most (unrecycled k) = up putLimit (join (join (join (join guards inserting) removing) publishing) (join (join (part (count S x logged plan 19) freeing) (join (one (putDoom (x .txid .0))) finishing)) leaving)) (omega (arith, run-puts))
-  spoil-most (unfinished k) = up putLimit (join (join (join (join (join guards inserting) removing) publishing) freeing) (join (one (putDoom (x .txid .0))) leaving)) (omega (arith, run-puts))
+  spoil-most (unremoved k) =
+      up putLimit (join (join guards inserting) (join (join (part (count S x logged plan 17) removing) (one putPoison)) leaving)) (omega (arith, run-puts))
+  spoil-most (unpublished k) =
+      up putLimit (join (join (join guards inserting) removing)
+      (join (join (part (count S x logged plan 18) publishing) (join (one (putDoom (x .txid .0))) finishing)) leaving))
+      (omega (arith, run-puts))
+  spoil-most (unrecycled k) =
+      up putLimit (join (join (join (join guards inserting) removing) publishing)
+      (join (join (part (count S x logged plan 19) freeing) (join (one (putDoom (x .txid .0))) finishing)) leaving))
+      (omega (arith, run-puts))
+  spoil-most (unfinished k) =
+      up putLimit (join (join (join (join (join guards inserting) removing) publishing) freeing) (join (one (putDoom (x .txid .0))) leaving))
+      (omega (arith, run-puts))
 
   stamped : Most (afterStamp S x logged plan) (stripes + partitions + writeLimit + writeLimit + (writeLimit + writeLimit) + places + 1 + stripes)
   stamped = join (join (join (join (join (join guards inserting) removing) publishing) freeing) (one (putDrop (x .txid .0)))) stamps
@@ -110,12 +128,19 @@ module _ (S : Store) (x : Tx) (logged : Bool) (plan : Schedule) (ok : fit S x �
   ends-most (uninserted p k) =
       let d = destinations (changes S x) in
       let h = destinations-fit S x ok in
-      up putLimit (join guards (join (part (count S x logged plan 15) inserting) (join (rollback-most false (take (count S x logged plan 15) d) (omega (arith, length-take (count S x logged plan 15) d))) leaving))) (omega (arith, run-puts))
+      up putLimit (join guards (join (part (count S x logged plan 15) inserting)
+      (join (rollback-most false (take (count S x logged plan 15) d) (omega (arith, length-take (count S x logged plan 15) d))) leaving)))
+      (omega (arith, run-puts))
   ends-most (uncalled p l k) =
-      up putLimit (join (join guards inserting) (join (pick (worse S x logged plan) (one putPoison) (up 1 none (omega arith))) (join (rollback-most (worse S x logged plan) (destinations (changes S x)) (destinations-fit S x ok)) (join (abort-most _) leaving)))) (omega (arith, undo-puts))
+      up putLimit (join (join guards inserting)
+      (join (pick (worse S x logged plan) (one putPoison) (up 1 none (omega arith)))
+      (join (rollback-most (worse S x logged plan) (destinations (changes S x)) (destinations-fit S x ok)) (join (abort-most _) leaving))))
+      (omega (arith, undo-puts))
   ends-most (spoils p k) = spoil-most k
   ends-most (unstamped p k) =
-      up putLimit (join (join (join (join (join (join guards inserting) removing) publishing) freeing) (one (putDrop (x .txid .0)))) (join (part (count S x logged plan 22) stamps) (join (one putPoison) leaving))) (omega (arith, run-puts))
+      up putLimit (join (join (join (join (join (join guards inserting) removing) publishing) freeing) (one (putDrop (x .txid .0))))
+      (join (part (count S x logged plan 22) stamps) (join (one putPoison) leaving)))
+      (omega (arith, run-puts))
 
   -- so what a run pushes into an empty journal is all there
   pub run-room : length (runOf S x logged plan .puts) ≤ putLimit

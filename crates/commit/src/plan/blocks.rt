@@ -12,7 +12,8 @@ ghost use Rattle.rules.specs.Transaction.{finals};
 ghost use Rattle.rules.specs.Chains.{walk};
 ghost use Rattle.rules.specs.Fit.{fit};
 ghost use Rattle.rules.specs.Puts.{putRemove, putDrop, putPoison, putDoom, abortPuts};
-ghost use Rattle.rules.specs.Changes.{changes, destinations, sources, indexGuards, partitionGuards, release, insertions, removals, publication, recycling, stamping};
+ghost use Rattle.rules.specs.Changes.{changes, destinations, sources, indexGuards, partitionGuards};
+ghost use Rattle.rules.specs.Changes.{release, insertions, removals, publication, recycling, stamping};
 ghost use Rattle.journal.specs.Adds.{Adds};
 ghost use Rattle.commit.specs.Plan.Moves.{codesOf, changedMarks};
 ghost use Rattle.commit.specs.Plan.Guards.{guardedMarks, partitionMarks};
@@ -21,6 +22,7 @@ ghost use Rattle.commit.specs.Plan.Own.{recycledMarks};
 use super::moves::Codes;
 use super::publish;
 use super::pushes;
+use fields::lent::clipped;
 use journal::Journal;
 use journal::Kind;
 use journal::at_marks;
@@ -31,7 +33,6 @@ use records::SlotPtr;
 use records::Store;
 use records::Tx;
 use records::Write;
-use fields::lent::clipped;
 
 // The stripe guards set to t: the txid to take them, 0 to let them go.
 pub fn push_index_guards(
@@ -40,7 +41,8 @@ pub fn push_index_guards(
     j: &mut [u64; Journal::WORDS],
     n: usize,
 ) -> usize
-    ensures { λ r. ⌜ ((S : Store) (x : Tx) → now (stripes .entry) ≡ guardedMarks (changes S x) x → fit S x ≡ true → Adds (now (j .entry)) n (indexGuards S x t) (now (j .exit)) r) ⌝ }
+    ensures { λ r. ⌜ ((S : Store) (x : Tx) → now (stripes .entry) ≡ guardedMarks (changes S x) x → fit S x ≡ true
+        → Adds (now (j .entry)) n (indexGuards S x t) (now (j .exit)) r) ⌝ }
 {
     push_marked(stripes, Kind::STRIPE, t, Store::STRIPES, j, n)
 }
@@ -64,7 +66,8 @@ pub fn push_release<'a>(
     j: &mut [u64; Journal::WORDS],
     n: usize,
 ) -> usize
-    ensures { λ r. ⌜ ((S : Store) (x : Tx) → now (stripes .entry) ≡ guardedMarks (changes S x) x → now (partitions .entry) ≡ partitionMarks x → fit S x ≡ true → Adds (now (j .entry)) n (release S x) (now (j .exit)) r) ⌝ }
+    ensures { λ r. ⌜ ((S : Store) (x : Tx) → now (stripes .entry) ≡ guardedMarks (changes S x) x → now (partitions .entry) ≡ partitionMarks x
+        → fit S x ≡ true → Adds (now (j .entry)) n (release S x) (now (j .exit)) r) ⌝ }
 {
     let k = push_partition_guards(partitions, 0, j, n);
     push_index_guards(stripes, 0, j, k)
@@ -72,7 +75,8 @@ pub fn push_release<'a>(
 
 // The first `limit` insertions of destinations.
 pub fn push_insertions(into: Codes, limit: usize, j: &mut [u64; Journal::WORDS], n: usize) -> usize
-    ensures { λ r. ⌜ ((S : Store) (x : Tx) → into ≡ codesOf (destinations (changes S x)) → fit S x ≡ true → Adds (now (j .entry)) n (take limit (insertions S x)) (now (j .exit)) r) ⌝ }
+    ensures { λ r. ⌜ ((S : Store) (x : Tx) → into ≡ codesOf (destinations (changes S x)) → fit S x ≡ true
+        → Adds (now (j .entry)) n (take limit (insertions S x)) (now (j .exit)) r) ⌝ }
 {
     let some = clipped(limit, into.count);
     pushes::push_listed(&into.at, Kind::INSERT, some, j, n)
@@ -80,7 +84,8 @@ pub fn push_insertions(into: Codes, limit: usize, j: &mut [u64; Journal::WORDS],
 
 // The first `limit` removals of sources.
 pub fn push_removals(out: Codes, limit: usize, j: &mut [u64; Journal::WORDS], n: usize) -> usize
-    ensures { λ r. ⌜ ((S : Store) (x : Tx) → out ≡ codesOf (sources (changes S x)) → fit S x ≡ true → Adds (now (j .entry)) n (take limit (removals S x)) (now (j .exit)) r) ⌝ }
+    ensures { λ r. ⌜ ((S : Store) (x : Tx) → out ≡ codesOf (sources (changes S x)) → fit S x ≡ true
+        → Adds (now (j .entry)) n (take limit (removals S x)) (now (j .exit)) r) ⌝ }
 {
     let some = clipped(limit, out.count);
     pushes::push_listed(&out.at, Kind::REMOVE, some, j, n)
@@ -94,7 +99,8 @@ pub fn push_rollback(
     j: &mut [u64; Journal::WORDS],
     n: usize,
 ) -> usize
-    ensures { λ r. ⌜ ((S : Store) (x : Tx) → into ≡ codesOf (destinations (changes S x)) → fit S x ≡ true → Adds (now (j .entry)) n (take limit (map putRemove (reverse (take made (destinations (changes S x)))))) (now (j .exit)) r) ⌝ }
+    ensures { λ r. ⌜ ((S : Store) (x : Tx) → into ≡ codesOf (destinations (changes S x)) → fit S x ≡ true
+        → Adds (now (j .entry)) n (take limit (map putRemove (reverse (take made (destinations (changes S x)))))) (now (j .exit)) r) ⌝ }
 {
     let from = clipped(made, into.count);
     pushes::push_back(&into.at, from, Kind::REMOVE, limit, j, n)
@@ -109,7 +115,8 @@ pub fn push_publication(
     j: &mut [u64; Journal::WORDS],
     n: usize,
 ) -> usize
-    ensures { λ r. ⌜ ((S : Store) (x : Tx) → take count at ≡ finals x → t ≡ x .txid .0 → fit S x ≡ true → Adds (now (j .entry)) n (take limit (publication x)) (now (j .exit)) r) ⌝ }
+    ensures { λ r. ⌜ ((S : Store) (x : Tx) → take count at ≡ finals x → t ≡ x .txid .0 → fit S x ≡ true
+        → Adds (now (j .entry)) n (take limit (publication x)) (now (j .exit)) r) ⌝ }
 {
     publish::push_writes(at, count, t, limit, j, n)
 }
@@ -121,7 +128,8 @@ pub fn push_recycling(
     j: &mut [u64; Journal::WORDS],
     n: usize,
 ) -> usize
-    ensures { λ r. ⌜ ((S : Store) (x : Tx) → now (recycled .entry) ≡ recycledMarks (S .xmin) (walk (S .heads) (S .next) .seen) x → length (S .xmin) ≤ places → Adds (now (j .entry)) n (take limit (recycling S x)) (now (j .exit)) r) ⌝ }
+    ensures { λ r. ⌜ ((S : Store) (x : Tx) → now (recycled .entry) ≡ recycledMarks (S .xmin) (walk (S .heads) (S .next) .seen) x
+        → length (S .xmin) ≤ places → Adds (now (j .entry)) n (take limit (recycling S x)) (now (j .exit)) r) ⌝ }
 {
     push_frees(recycled, limit, j, n)
 }
@@ -134,7 +142,8 @@ pub fn push_stamping(
     j: &mut [u64; Journal::WORDS],
     n: usize,
 ) -> usize
-    ensures { λ r. ⌜ ((S : Store) (x : Tx) → now (changed .entry) ≡ changedMarks (changes S x) → t ≡ x .txid .0 → Adds (now (j .entry)) n (take limit (stamping S x)) (now (j .exit)) r) ⌝ }
+    ensures { λ r. ⌜ ((S : Store) (x : Tx) → now (changed .entry) ≡ changedMarks (changes S x) → t ≡ x .txid .0
+        → Adds (now (j .entry)) n (take limit (stamping S x)) (now (j .exit)) r) ⌝ }
 {
     push_marked(changed, Kind::STAMP, t, limit, j, n)
 }
@@ -167,7 +176,8 @@ pub fn push_abort(
     j: &mut [u64; Journal::WORDS],
     n: usize,
 ) -> usize
-    ensures { λ r. ⌜ ((S : Store) → now (own .entry) ≡ ownMarks (S .xmin) (walk (S .heads) (S .next) .seen) t → length (S .xmin) ≤ places → Adds (now (j .entry)) n (abortPuts S t) (now (j .exit)) r) ⌝ }
+    ensures { λ r. ⌜ ((S : Store) → now (own .entry) ≡ ownMarks (S .xmin) (walk (S .heads) (S .next) .seen) t → length (S .xmin) ≤ places
+        → Adds (now (j .entry)) n (abortPuts S t) (now (j .exit)) r) ⌝ }
 {
     at_marks::push_abort(own, t, j, n)
 }

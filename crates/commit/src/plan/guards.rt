@@ -5,10 +5,10 @@ ghost use mathlib.Core.List.{map};
 ghost use Rattle.rules.specs.Transaction.{readsOf, indexReadsOf};
 ghost use Rattle.fields.specs.Marks.{markAll};
 ghost use Rattle.commit.specs.Plan.Guards.{stripeRead, partitionRead, writtenMarks, partitionMarks};
+use fields::lent::clipped;
 use records::RowId;
 use records::Store;
 use records::Tx;
-use fields::lent::clipped;
 
 // The stripes of index reads, besides those that are marked; a stripe too high is not marked.
 pub fn guarded_stripes(x: Tx, changed: [bool; Store::STRIPES]) -> [bool; Store::STRIPES]

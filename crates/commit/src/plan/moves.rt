@@ -11,14 +11,14 @@ ghost use Rattle.fields.specs.Lent.{atPlaces, flagsAtPlaces};
 ghost use Rattle.fields.specs.Marks.{markAll};
 ghost use Rattle.commit.specs.Plan.Plain.{low};
 ghost use Rattle.commit.specs.Plan.Moves.{codesOf, movesOf, change};
-use visibility::slots;
+use fields::lent::clipped;
 use records::RowId;
 use records::SlotPtr;
 use records::Store;
 use records::Tx;
 use records::Value;
 use records::Write;
-use fields::lent::clipped;
+use visibility::slots;
 
 // Postings, at most one for a write: the first `count` places.
 pub struct Codes {

@@ -4,10 +4,10 @@ ghost use mathlib.Core.Path.{_≡_};
 ghost use mathlib.Core.List.{map};
 ghost use lib.ListN.{take};
 ghost use Rattle.commit.specs.Plan.Own.{unmarkAll, newOf};
+use fields::lent::clipped;
 use records::SlotPtr;
 use records::Tx;
 use records::Write;
-use fields::lent::clipped;
 
 // The marks without the new slots of the first `count` writes.
 pub fn recycled_marks(

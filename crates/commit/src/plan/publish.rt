@@ -8,11 +8,11 @@ ghost use Rattle.rules.specs.Lists.{all};
 ghost use Rattle.journal.specs.Adds.{Adds};
 ghost use Rattle.commit.specs.Plan.Plain.{plain};
 ghost use Rattle.commit.specs.Plan.Publish.{ofWrite, sizeOf, publishing};
+use fields::lent::clipped;
 use journal::Journal;
 use journal::Kind;
 use records::Tx;
 use records::Write;
-use fields::lent::clipped;
 
 fn less(a: usize, b: usize) -> usize
     ensures { λ r. ⌜ r ≡ a - b ⌝ }

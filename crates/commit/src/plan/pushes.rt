@@ -7,8 +7,8 @@ ghost use Rattle.rules.specs.Puts.{lastKind};
 ghost use Rattle.journal.specs.Journal.{narrow};
 ghost use Rattle.journal.specs.Adds.{Adds};
 ghost use Rattle.commit.specs.Plan.Pushes.{listed, listedBack};
-use journal::Journal;
 use fields::lent::clipped;
+use journal::Journal;
 
 // A put of one kind for each posting of a list, and no more than `limit`: insertions and removals.
 pub(crate) fn push_listed(

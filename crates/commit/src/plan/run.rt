@@ -26,14 +26,14 @@ use super::moves;
 use super::moves::Codes;
 use super::own;
 use journal::Journal;
-use steps::gate::Gate;
-use steps::gate::left_at;
-use visibility::own_slots::own_marks;
 use records::RowId;
 use records::SlotPtr;
 use records::Store;
 use records::Tx;
 use records::Write;
+use steps::gate::Gate;
+use steps::gate::left_at;
+use visibility::own_slots::own_marks;
 
 // What a commit stores if nothing ends it, and what it frees if it aborts.
 pub struct Plan {
@@ -76,7 +76,8 @@ pub fn plan_of<'a>(
     at: [Write; Tx::WRITES],
     count: usize,
 ) -> Plan
-    ensures { λ p. ⌜ p ≡ planFrom (atPlaces (now (key .entry))) (flagsAtPlaces (now (has .entry))) (atPlaces (now (xmin .entry))) (atPlaces (now (seen .entry))) x at count ⌝ }
+    ensures { λ p. ⌜ p ≡ planFrom (atPlaces (now (key .entry))) (flagsAtPlaces (now (has .entry))) (atPlaces (now (xmin .entry)))
+        (atPlaces (now (seen .entry))) x at count ⌝ }
 {
     let m = moves::index_changes(key, has, at, count);
     let into = m.into;
@@ -121,7 +122,8 @@ fn take_stripes(
     j: &mut [u64; Journal::WORDS],
     n: usize,
 ) -> usize
-    ensures { λ r. ⌜ ((S : Store) (x : Tx) → now (stripes .entry) ≡ guardedMarks (changes S x) x → fit S x ≡ true → Adds (now (j .entry)) n (after partitionGuardsFailed gate (indexGuards S x t)) (now (j .exit)) r) ⌝ }
+    ensures { λ r. ⌜ ((S : Store) (x : Tx) → now (stripes .entry) ≡ guardedMarks (changes S x) x → fit S x ≡ true
+        → Adds (now (j .entry)) n (after partitionGuardsFailed gate (indexGuards S x t)) (now (j .exit)) r) ⌝ }
 {
     if gate < Gate::PARTITION_GUARDS_FAILED {
         return n;
@@ -136,7 +138,8 @@ fn take_partitions(
     j: &mut [u64; Journal::WORDS],
     n: usize,
 ) -> usize
-    ensures { λ r. ⌜ ((x : Tx) → now (partitions .entry) ≡ partitionMarks x → Adds (now (j .entry)) n (after unloggedCheckFailed gate (partitionGuards x t)) (now (j .exit)) r) ⌝ }
+    ensures { λ r. ⌜ ((x : Tx) → now (partitions .entry) ≡ partitionMarks x
+        → Adds (now (j .entry)) n (after unloggedCheckFailed gate (partitionGuards x t)) (now (j .exit)) r) ⌝ }
 {
     if gate < Gate::UNLOGGED_CHECK_FAILED {
         return n;
@@ -155,7 +158,8 @@ fn drop_txid(gate: usize, t: u64, j: &mut [u64; Journal::WORDS], n: usize) -> us
 
 // Guards and postings.
 fn push_taken(p: Plan, s: Struck, gate: usize, j: &mut [u64; Journal::WORDS], n: usize) -> usize
-    ensures { λ r. ⌜ ((S : Store) (x : Tx) (logged : Bool) (plan : Schedule) → Planned S x logged plan p s → Adds (now (j .entry)) n (taken S x logged plan gate) (now (j .exit)) r) ⌝ }
+    ensures { λ r. ⌜ ((S : Store) (x : Tx) (logged : Bool) (plan : Schedule) → Planned S x logged plan p s
+        → Adds (now (j .entry)) n (taken S x logged plan gate) (now (j .exit)) r) ⌝ }
 {
     let a = take_stripes(&p.stripes, gate, p.txid, j, n);
     let b = take_partitions(&p.partitions, gate, p.txid, j, a);
@@ -167,7 +171,8 @@ fn push_taken(p: Plan, s: Struck, gate: usize, j: &mut [u64; Journal::WORDS], n:
 
 // Rows, the active list and stamps.
 fn push_passed(p: Plan, s: Struck, gate: usize, j: &mut [u64; Journal::WORDS], n: usize) -> usize
-    ensures { λ r. ⌜ ((S : Store) (x : Tx) (logged : Bool) (plan : Schedule) → Planned S x logged plan p s → Adds (now (j .entry)) n (passed S x logged plan gate) (now (j .exit)) r) ⌝ }
+    ensures { λ r. ⌜ ((S : Store) (x : Tx) (logged : Bool) (plan : Schedule) → Planned S x logged plan p s
+        → Adds (now (j .entry)) n (passed S x logged plan gate) (now (j .exit)) r) ⌝ }
 {
     let w = limit_at(gate, Gate::PUBLISH_FAILED, s.published);
     let at = p.at;
@@ -213,7 +218,8 @@ fn roll_back(
     j: &mut [u64; Journal::WORDS],
     n: usize,
 ) -> usize
-    ensures { λ r. ⌜ ((S : Store) (x : Tx) (logged : Bool) (plan : Schedule) → into ≡ codesOf (destinations (changes S x)) → s ≡ struckOf S x logged plan → fit S x ≡ true → Adds (now (j .entry)) n (rollback S x logged plan already (take made (destinations (changes S x))) .puts) (now (j .exit)) r) ⌝ }
+    ensures { λ r. ⌜ ((S : Store) (x : Tx) (logged : Bool) (plan : Schedule) → into ≡ codesOf (destinations (changes S x)) → s ≡ struckOf S x logged plan
+        → fit S x ≡ true → Adds (now (j .entry)) n (rollback S x logged plan already (take made (destinations (changes S x))) .puts) (now (j .exit)) r) ⌝ }
 {
     if s.rollback {
         let k = blocks::push_rollback(into, made, s.rolled, j, n);
@@ -231,7 +237,9 @@ fn abort_or_poison(
     j: &mut [u64; Journal::WORDS],
     n: usize,
 ) -> usize
-    ensures { λ r. ⌜ ((S : Store) (x : Tx) (logged : Bool) (plan : Schedule) → now (own .entry) ≡ ownMarks (S .xmin) (walk (S .heads) (S .next) .seen) t → t ≡ x .txid .0 → failing ≡ fails S x logged plan 23 → length (S .xmin) ≤ places → Adds (now (j .entry)) n (abortOrPoison S x logged plan already .puts) (now (j .exit)) r) ⌝ }
+    ensures { λ r. ⌜ ((S : Store) (x : Tx) (logged : Bool) (plan : Schedule) → now (own .entry) ≡ ownMarks (S .xmin) (walk (S .heads) (S .next) .seen) t
+        → t ≡ x .txid .0 → failing ≡ fails S x logged plan 23 → length (S .xmin) ≤ places
+        → Adds (now (j .entry)) n (abortOrPoison S x logged plan already .puts) (now (j .exit)) r) ⌝ }
 {
     if failing {
         return poison_unless(already, j, n);
@@ -241,7 +249,8 @@ fn abort_or_poison(
 
 // Insertions taken back, where a callback or an insertion fails.
 fn push_undoes(p: Plan, s: Struck, gate: usize, j: &mut [u64; Journal::WORDS], n: usize) -> usize
-    ensures { λ r. ⌜ ((S : Store) (x : Tx) (logged : Bool) (plan : Schedule) → Planned S x logged plan p s → Adds (now (j .entry)) n (undoes S x logged plan gate) (now (j .exit)) r) ⌝ }
+    ensures { λ r. ⌜ ((S : Store) (x : Tx) (logged : Bool) (plan : Schedule) → Planned S x logged plan p s
+        → Adds (now (j .entry)) n (undoes S x logged plan gate) (now (j .exit)) r) ⌝ }
 {
     if gate == Gate::INSERT_FAILED {
         return roll_back(p.into, s.inserted, s, false, j, n);
@@ -260,7 +269,8 @@ pub fn either(a: bool, b: bool) -> bool
 
 // The abort of a failed callback; the finish of a failed publication or recycling.
 fn push_drops(p: Plan, s: Struck, gate: usize, j: &mut [u64; Journal::WORDS], n: usize) -> usize
-    ensures { λ r. ⌜ ((S : Store) (x : Tx) (logged : Bool) (plan : Schedule) → Planned S x logged plan p s → Adds (now (j .entry)) n (drops S x logged plan gate) (now (j .exit)) r) ⌝ }
+    ensures { λ r. ⌜ ((S : Store) (x : Tx) (logged : Bool) (plan : Schedule) → Planned S x logged plan p s
+        → Adds (now (j .entry)) n (drops S x logged plan gate) (now (j .exit)) r) ⌝ }
 {
     if gate == Gate::CALLBACK_ENDED {
         let already = either(s.worse, s.rollback);
@@ -280,7 +290,8 @@ fn push_drops(p: Plan, s: Struck, gate: usize, j: &mut [u64; Journal::WORDS], n:
 
 // The guards let go that are held.
 fn push_lets(p: Plan, gate: usize, j: &mut [u64; Journal::WORDS], n: usize) -> usize
-    ensures { λ r. ⌜ ((S : Store) (x : Tx) (logged : Bool) (plan : Schedule) → p .stripes ≡ guardedMarks (changes S x) x → p .partitions ≡ partitionMarks x → fit S x ≡ true → Adds (now (j .entry)) n (lets S x logged plan gate) (now (j .exit)) r) ⌝ }
+    ensures { λ r. ⌜ ((S : Store) (x : Tx) (logged : Bool) (plan : Schedule) → p .stripes ≡ guardedMarks (changes S x) x
+        → p .partitions ≡ partitionMarks x → fit S x ≡ true → Adds (now (j .entry)) n (lets S x logged plan gate) (now (j .exit)) r) ⌝ }
 {
     if gate < Gate::PARTITION_GUARDS_FAILED {
         return n;
@@ -303,7 +314,8 @@ fn aborts_at(gate: usize) -> bool
 
 // The abort of the gates up to the tests.
 fn push_dies(p: Plan, s: Struck, gate: usize, j: &mut [u64; Journal::WORDS], n: usize) -> usize
-    ensures { λ r. ⌜ ((S : Store) (x : Tx) (logged : Bool) (plan : Schedule) → Planned S x logged plan p s → Adds (now (j .entry)) n (dies S x logged plan gate) (now (j .exit)) r) ⌝ }
+    ensures { λ r. ⌜ ((S : Store) (x : Tx) (logged : Bool) (plan : Schedule) → Planned S x logged plan p s
+        → Adds (now (j .entry)) n (dies S x logged plan gate) (now (j .exit)) r) ⌝ }
 {
     if aborts_at(gate) {
         return abort_or_poison(&p.own, p.txid, s.abort, s.poisoned, j, n);
@@ -313,7 +325,8 @@ fn push_dies(p: Plan, s: Struck, gate: usize, j: &mut [u64; Journal::WORDS], n: 
 
 // All the puts of a run that ends at the gate.
 pub fn push_run(p: Plan, s: Struck, gate: usize, j: &mut [u64; Journal::WORDS], n: usize) -> usize
-    ensures { λ r. ⌜ ((S : Store) (x : Tx) (logged : Bool) (plan : Schedule) → Planned S x logged plan p s → Adds (now (j .entry)) n (putsAt S x logged plan gate) (now (j .exit)) r) ⌝ }
+    ensures { λ r. ⌜ ((S : Store) (x : Tx) (logged : Bool) (plan : Schedule) → Planned S x logged plan p s
+        → Adds (now (j .entry)) n (putsAt S x logged plan gate) (now (j .exit)) r) ⌝ }
 {
     let a = push_taken(p, s, gate, j, n);
     let b = push_passed(p, s, gate, j, a);

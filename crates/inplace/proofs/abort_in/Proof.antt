@@ -17,5 +17,7 @@ use Rattle.inplace.proofs.abort_in.Statement.{statement}
 pub abort-in-spec : {M : Type 1} → statement M
 unfolding code.routine
 abort-in-spec 𝓤 H 𝓜 𝓖 𝓡 =
-    in-place 𝓤 H 𝓜 𝓖 𝓡 code.env store reply told (tx ∷ []) (λ a. abort (a .0) (a .1 .0)) (λ a. a .store) specs.told own.name core.name part.name rest.name (code.unfolded 𝓤 H 𝓜 𝓡)
-    core.routine code.calls-calls·abort·abort (core-thm.met 𝓤 H 𝓜 𝓖 𝓡) part.routine code.calls-inplace·parts·reply-store (part-thm.met 𝓤 H 𝓜 𝓖 𝓡) rest.routine code.calls-inplace·parts·reply-told (rest-thm.met 𝓤 H 𝓜 𝓖 𝓡)
+    in-place 𝓤 H 𝓜 𝓖 𝓡 code.env store reply told (tx ∷ []) (λ a. abort (a .0) (a .1 .0)) (λ a. a .store) specs.told own.name core.name part.name
+    rest.name (code.unfolded 𝓤 H 𝓜 𝓡)
+    core.routine code.calls-calls·abort·abort (core-thm.met 𝓤 H 𝓜 𝓖 𝓡) part.routine code.calls-inplace·parts·reply-store (part-thm.met 𝓤 H 𝓜 𝓖 𝓡)
+    rest.routine code.calls-inplace·parts·reply-told (rest-thm.met 𝓤 H 𝓜 𝓖 𝓡)

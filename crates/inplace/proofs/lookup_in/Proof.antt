@@ -12,4 +12,5 @@ use Rattle.inplace.proofs.lookup_in.Statement.{statement}
 pub lookup-in-spec : {M : Type 1} → statement M
 unfolding code.routine
 lookup-in-spec 𝓤 H 𝓜 𝓖 𝓡 =
-    looked-into 𝓤 H 𝓜 𝓖 𝓡 code.env store found (tx ∷ number ∷ []) (λ a. lookup (a .0) (a .1 .0) (a .1 .1 .0)) own.name core.name (code.unfolded 𝓤 H 𝓜 𝓡) core.routine code.calls-calls·lookup·lookup (core-thm.met 𝓤 H 𝓜 𝓖 𝓡)
+    looked-into 𝓤 H 𝓜 𝓖 𝓡 code.env store found (tx ∷ number ∷ []) (λ a. lookup (a .0) (a .1 .0) (a .1 .1 .0)) own.name core.name
+    (code.unfolded 𝓤 H 𝓜 𝓡) core.routine code.calls-calls·lookup·lookup (core-thm.met 𝓤 H 𝓜 𝓖 𝓡)

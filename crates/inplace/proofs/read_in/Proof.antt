@@ -12,4 +12,5 @@ use Rattle.inplace.proofs.read_in.Statement.{statement}
 pub read-in-spec : {M : Type 1} → statement M
 unfolding code.routine
 read-in-spec 𝓤 H 𝓜 𝓖 𝓡 =
-    looked-into 𝓤 H 𝓜 𝓖 𝓡 code.env store seen (tx ∷ row ∷ []) (λ a. read (a .0) (a .1 .0) (a .1 .1 .0 .0)) own.name core.name (code.unfolded 𝓤 H 𝓜 𝓡) core.routine code.calls-calls·read·read (core-thm.met 𝓤 H 𝓜 𝓖 𝓡)
+    looked-into 𝓤 H 𝓜 𝓖 𝓡 code.env store seen (tx ∷ row ∷ []) (λ a. read (a .0) (a .1 .0) (a .1 .1 .0 .0)) own.name core.name
+    (code.unfolded 𝓤 H 𝓜 𝓡) core.routine code.calls-calls·read·read (core-thm.met 𝓤 H 𝓜 𝓖 𝓡)

@@ -16,5 +16,7 @@ use Rattle.inplace.proofs.recover_in.Statement.{statement}
 pub recover-in-spec : {M : Type 1} → statement M
 unfolding code.routine
 recover-in-spec 𝓤 H 𝓜 𝓖 𝓡 =
-    in-place 𝓤 H 𝓜 𝓖 𝓡 code.env store mended refusal [] (λ a. recover (a .0)) (λ a. a .store) (λ a. a .refusal) own.name core.name part.name rest.name (code.unfolded 𝓤 H 𝓜 𝓡)
-    core.routine code.calls-recovery·recover (core-thm.met 𝓤 H 𝓜 𝓖 𝓡) part.routine code.calls-inplace·parts·mended-store (part-thm.met 𝓤 H 𝓜 𝓖 𝓡) rest.routine code.calls-inplace·parts·mended-told (rest-thm.met 𝓤 H 𝓜 𝓖 𝓡)
+    in-place 𝓤 H 𝓜 𝓖 𝓡 code.env store mended refusal [] (λ a. recover (a .0)) (λ a. a .store) (λ a. a .refusal) own.name core.name part.name
+    rest.name (code.unfolded 𝓤 H 𝓜 𝓡)
+    core.routine code.calls-recovery·recover (core-thm.met 𝓤 H 𝓜 𝓖 𝓡) part.routine code.calls-inplace·parts·mended-store (part-thm.met 𝓤 H 𝓜 𝓖 𝓡)
+    rest.routine code.calls-inplace·parts·mended-told (rest-thm.met 𝓤 H 𝓜 𝓖 𝓡)

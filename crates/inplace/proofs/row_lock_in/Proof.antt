@@ -17,5 +17,7 @@ use Rattle.inplace.proofs.row_lock_in.Statement.{statement}
 pub row-lock-in-spec : {M : Type 1} → statement M
 unfolding code.routine
 row-lock-in-spec 𝓤 H 𝓜 𝓖 𝓡 =
-    in-place 𝓤 H 𝓜 𝓖 𝓡 code.env store reply told (tx ∷ row ∷ []) (λ a. rowLock (a .0) (a .1 .0) (a .1 .1 .0 .0)) (λ a. a .store) specs.told own.name core.name part.name rest.name (code.unfolded 𝓤 H 𝓜 𝓡)
-    core.routine code.calls-calls·lock·row-lock (core-thm.met 𝓤 H 𝓜 𝓖 𝓡) part.routine code.calls-inplace·parts·reply-store (part-thm.met 𝓤 H 𝓜 𝓖 𝓡) rest.routine code.calls-inplace·parts·reply-told (rest-thm.met 𝓤 H 𝓜 𝓖 𝓡)
+    in-place 𝓤 H 𝓜 𝓖 𝓡 code.env store reply told (tx ∷ row ∷ []) (λ a. rowLock (a .0) (a .1 .0) (a .1 .1 .0 .0)) (λ a. a .store) specs.told
+    own.name core.name part.name rest.name (code.unfolded 𝓤 H 𝓜 𝓡)
+    core.routine code.calls-calls·lock·row-lock (core-thm.met 𝓤 H 𝓜 𝓖 𝓡) part.routine code.calls-inplace·parts·reply-store
+    (part-thm.met 𝓤 H 𝓜 𝓖 𝓡) rest.routine code.calls-inplace·parts·reply-told (rest-thm.met 𝓤 H 𝓜 𝓖 𝓡)

@@ -15,7 +15,11 @@ returns-3 : tie.Need-returns-3
 returns-3 c = push-refused _ _ _ (rw (lt-ltb _ _ (c .before .before .if1 .left), le-leb _ _ (c .before .if2 .left), le-ltb _ _ (c .if3 .taken)))
 
 returns-4 : tie.Need-returns-4
-returns-4 c = push-taken _ _ _ _ (rw (lt-ltb _ _ (c .before .before .before .before .if1 .left), le-leb _ _ (c .before .before .before .if2 .left), lt-ltb _ _ (c .before .before .if3 .left))) (c .before .write-arg .given .0 .1) (c .write .ensures)
+returns-4 c = push-taken _ _ _ _ (rw (
+  lt-ltb _ _ (c .before .before .before .before .if1 .left),
+  le-leb _ _ (c .before .before .before .if2 .left),
+  lt-ltb _ _ (c .before .before .if3 .left),
+)) (c .before .write-arg .given .0 .1) (c .write .ensures)
 
 pub push-spec : {M : Type 1} → statement M
 push-spec =

@@ -11,7 +11,9 @@ same-length : tie.Need-same-length
 same-length c = c .before .before .clear .kept .0 ∙ simp length-set
 
 returns : tie.Need-returns
-returns c = let s = c .before .before .before .before .before .before in c .before .before .clear .ensures ∙ put-behind (s .args .x .now) (s .args .m) (s .args .v) (omega arith)
+returns c =
+    let s = c .before .before .before .before .before .before in
+    c .before .before .clear .ensures ∙ put-behind (s .args .x .now) (s .args .m) (s .args .v) (omega arith)
 
 returns-2 : tie.Need-returns-2
 returns-2 c = let s = c .before .before in none-behind (s .args .x .now) (s .args .m) (s .args .v) (c .if1 .left)

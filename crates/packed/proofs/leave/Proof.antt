@@ -9,7 +9,9 @@ strip-requires : tie.Need-strip-requires
 strip-requires c κs = rw (c .before .live .ensures) (live-within (c .before .before .before .before .args .x .now))
 
 returns : tie.Need-returns
-returns c = c .before .before .strip .ensures .at ∙ rw (c .before .before .before .before .live .ensures, live-first (c .before .before .before .before .before .before .before .args .x .now))
+returns c =
+    c .before .before .strip .ensures .at
+    ∙ rw (c .before .before .before .before .live .ensures, live-first (c .before .before .before .before .before .before .before .args .x .now))
 
 pub leave-spec : {M : Type 1} → statement M
 leave-spec = tie.close (tie.spec (λ c κs. search needs) strip-requires (λ c. search needs) returns)

@@ -19,10 +19,14 @@ loop-holds : tie.Need-loop-holds Inv-loop μ-loop
 loop-holds c = (omega arith, omega arith)
 
 returns : tie.Need-returns Inv-loop μ-loop
-returns c = let a = c .before .before .before in ahead-stop _ (a .before .args .x .now) (a .loop .i) (a .before .args .m) (omega arith) (omega arith) (a .loop .inv .1) (c .if1 .taken)
+returns c =
+    let a = c .before .before .before in
+    ahead-stop _ (a .before .args .x .now) (a .loop .i) (a .before .args .m) (omega arith) (omega arith) (a .loop .inv .1) (c .if1 .taken)
 
 loop-again : tie.Need-loop-again Inv-loop μ-loop
-loop-again c = let a = c .before .before .before in (omega arith, ahead-more _ (a .before .args .x .now) (a .loop .i) (a .before .args .m) (omega arith) (omega arith) (a .loop .inv .1) (c .if1 .left))
+loop-again c =
+    let a = c .before .before .before in
+    (omega arith, ahead-more _ (a .before .args .x .now) (a .loop .i) (a .before .args .m) (omega arith) (omega arith) (a .loop .inv .1) (c .if1 .left))
 
 returns-2 : tie.Need-returns-2 Inv-loop μ-loop
 returns-2 c = ahead-end _ (c .before .before .args .x .now) _ (c .before .before .args .m) (c .before .loop .inv .1) (omega arith)

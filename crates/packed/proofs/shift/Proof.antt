@@ -18,7 +18,11 @@ abbrev μ-loop : tie.MeasureT-loop
 μ-loop x₀ i m v carried₀ k₀ x carried k = m - k
 
 loop-again : tie.Need-loop-again Inv-loop μ-loop
-loop-again c = let a = c .before .before in (omega arith, simp length-set (a .loop .inv .1), shift-turn (a .loop .x) (a .loop .k) (a .before .before .args .m) (a .loop .carried) (omega arith) (omega arith) ∙ a .loop .inv .2)
+loop-again c = let a = c .before .before in (
+  omega arith,
+  simp length-set (a .loop .inv .1),
+  shift-turn (a .loop .x) (a .loop .k) (a .before .before .args .m) (a .loop .carried) (omega arith) (omega arith) ∙ a .loop .inv .2,
+)
 
 append-requires : tie.Need-append-requires Inv-loop μ-loop
 append-requires c κs = omega arith
@@ -27,7 +31,11 @@ same-length : tie.Need-same-length Inv-loop μ-loop
 same-length c = c .before .before .append .kept .0 ∙ c .before .before .before .before .before .loop .inv .1
 
 returns : tie.Need-returns Inv-loop μ-loop
-returns c = let a = c .before .before .before .before .before in let s = a .before .before .args in let e : a .loop .k ≡ s .m = omega arith in c .before .before .append .ensures ∙ rw (a .loop .inv .1) (ap (pad (length (s .x .now)) 0) (rw (e, slice-empty) at (a .loop .inv .2)))
+returns c =
+    let a = c .before .before .before .before .before in
+    let s = a .before .before .args in
+    let e : a .loop .k ≡ s .m = omega arith in
+    c .before .before .append .ensures ∙ rw (a .loop .inv .1) (ap (pad (length (s .x .now)) 0) (rw (e, slice-empty) at (a .loop .inv .2)))
 
 pub shift-spec : {M : Type 1} → statement M
 shift-spec =

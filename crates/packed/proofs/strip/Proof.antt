@@ -19,16 +19,35 @@ abbrev μ-loop : tie.MeasureT-loop
 μ-loop x₀ m v kept₀ i₀ x kept i = m - i
 
 loop-again : tie.Need-loop-again Inv-loop μ-loop
-loop-again c = let a = c .before .before .before in (omega arith, omega arith, simp length-set (a .loop .inv .2), keep-turn (a .before .before .args .v) (a .loop .x) (a .loop .kept) (a .loop .i) (a .before .before .args .m) (omega arith) (omega arith) (omega arith) (c .if1 .taken) ∙ a .loop .inv .3)
+loop-again c = let a = c .before .before .before in (
+  omega arith,
+  omega arith,
+  simp length-set (a .loop .inv .2),
+  keep-turn (a .before .before .args .v) (a .loop .x) (a .loop .kept) (a .loop .i) (a .before .before .args .m) (omega arith) (omega arith)
+      (omega arith) (c .if1 .taken)
+      ∙ a .loop .inv .3,
+)
 
 loop-again-2 : tie.Need-loop-again-2 Inv-loop μ-loop
-loop-again-2 c = let a = c .before .before .before in (omega arith, omega arith, a .loop .inv .2, skip-turn (a .before .before .args .v) (a .loop .x) (a .loop .kept) (a .loop .i) (a .before .before .args .m) (omega arith) (omega arith) (omega arith) (c .if1 .left) ∙ a .loop .inv .3)
+loop-again-2 c = let a = c .before .before .before in (
+  omega arith,
+  omega arith,
+  a .loop .inv .2,
+  skip-turn (a .before .before .args .v) (a .loop .x) (a .loop .kept) (a .loop .i) (a .before .before .args .m) (omega arith) (omega arith)
+      (omega arith) (c .if1 .left)
+      ∙ a .loop .inv .3,
+)
 
 same-length : tie.Need-same-length Inv-loop μ-loop
 same-length c = c .before .before .clear .kept .0 ∙ c .before .before .before .before .before .loop .inv .2
 
 returns : tie.Need-returns Inv-loop μ-loop
-returns c = let a = c .before .before .before .before .before in let s = a .before .before .args in packed-first _ (a .loop .x) (a .loop .kept) _ (removed (s .v) (a .loop .x) (a .loop .kept) (a .loop .i) (a .before .before .args .m) (omega arith) (a .loop .inv .3)) (omega arith) (a .loop .inv .2) (c .before .before .clear .ensures)
+returns c =
+    let a = c .before .before .before .before .before in
+    let s = a .before .before .args in
+    packed-first _ (a .loop .x) (a .loop .kept) _
+    (removed (s .v) (a .loop .x) (a .loop .kept) (a .loop .i) (a .before .before .args .m) (omega arith) (a .loop .inv .3)) (omega arith)
+    (a .loop .inv .2) (c .before .before .clear .ensures)
 
 pub strip-spec : {M : Type 1} → statement M
 strip-spec =

@@ -14,9 +14,6 @@ use calls::lookup::lookup;
 use calls::read::read;
 use calls::write::write;
 use commit::commit;
-use recovery::recover;
-use script::print::Third;
-use script::refusal::number_of;
 use records::Cut;
 use records::Fault;
 use records::Refusal;
@@ -25,6 +22,9 @@ use records::Schedule;
 use records::Store;
 use records::Tx;
 use records::Value;
+use recovery::recover;
+use script::print::Third;
+use script::refusal::number_of;
 
 // "a refused B keeps its place's transaction"
 pub(crate) fn begin_line(s: Store, x: Tx, plan: Schedule) -> Turned

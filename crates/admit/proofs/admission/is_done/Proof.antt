@@ -7,7 +7,9 @@ use borrow.Author.Tests.{ne-eqb}
 use denote.Enum.Declared.{tagOf}
 use types.Run.{miss}
 use Rattle.records.proofs.Refusal as T
-use Rattle.rules.specs.Types.{Refusal, Done, NotResting, Unfit, NotActive, StepFailed, PrepareFailed, PreparePanicked, Conflict, BoundDurably, FoundPoisoned, InsertFailed, CallbackFailed, CallbackPanicked, RemoveFailed, PublishFailed, RecycleFailed, FinishFailed, StampFailed, CutOff, CleanupFailed, NotRepairable, ActiveFull, ClockAtEnd, RowTooHigh, ReadsFull, WritesFull, SlotsFull, LockedByAnother, NoHead}
+use Rattle.rules.specs.Types.{Refusal, Done, NotResting, Unfit, NotActive, StepFailed, PrepareFailed, PreparePanicked, Conflict, BoundDurably, FoundPoisoned}
+use Rattle.rules.specs.Types.{InsertFailed, CallbackFailed, CallbackPanicked, RemoveFailed, PublishFailed, RecycleFailed, FinishFailed, StampFailed, CutOff}
+use Rattle.rules.specs.Types.{CleanupFailed, NotRepairable, ActiveFull, ClockAtEnd, RowTooHigh, ReadsFull, WritesFull, SlotsFull, LockedByAnother, NoHead}
 use Rattle.rules.specs.Numbers.{numberOf, isDone}
 use borrow.Author.Needs.{needs}
 use Rattle.admit.proofs.admission.is_done.Statement.{statement}

@@ -25,8 +25,10 @@ returns-2 c =
     let s = t .before .before .before in
     let S = s .args .t1 in
     let few = abort-few (atRows (S .heads)) (atPlaces (S .next)) (atPlaces (S .xmin)) (s .args .x .txid .0) (omega (arith, array-length places 0 (S .xmin))) in
-    abort-done S (s .args .x) (t .before .admitted-marked .ensures .0) (sized S (s .good .0)) (sym (t .is-done .ensures) ∙ not-false _ (c .before .before .before .before .before .before .before .before .if1 .left))
-    (c .apply .ensures ∙ apply-held _ (adds-all (c .before .before .before .plan-abort .ensures (S .heads) (S .next) (t .before .admitted-marked .ensures .1)) (omega arith)))
+    abort-done S (s .args .x) (t .before .admitted-marked .ensures .0) (sized S (s .good .0))
+    (sym (t .is-done .ensures) ∙ not-false _ (c .before .before .before .before .before .before .before .before .if1 .left))
+    (c .apply .ensures
+    ∙ apply-held _ (adds-all (c .before .before .before .plan-abort .ensures (S .heads) (S .next) (t .before .admitted-marked .ensures .1)) (omega arith)))
     (c .before .before .only-txid .ensures)
 
 pub abort-spec : {M : Type 1} → statement M

@@ -17,7 +17,9 @@ returns c =
     let l = t .before .before .before .before in
     let h = l .before .before .before .before .before in
     let s = h .before .before .before in
-    lock-refused (s .args .t1) (s .args .x) _ (sized (s .args .t1) (s .good .0)) (h .head-of .ensures) (l .locked-by-another .ensures) (t .before .before .before .admitted .ensures) (t .before .before .healthy .ensures) (t .before .lock-refusal .ensures) (sym (t .is-done .ensures) ∙ not-true _ (c .if1 .taken))
+    lock-refused (s .args .t1) (s .args .x) _ (sized (s .args .t1) (s .good .0)) (h .head-of .ensures) (l .locked-by-another .ensures)
+    (t .before .before .before .admitted .ensures) (t .before .before .healthy .ensures) (t .before .lock-refusal .ensures)
+    (sym (t .is-done .ensures) ∙ not-true _ (c .if1 .taken))
 
 returns-2 : tie.Need-returns-2
 returns-2 c =
@@ -26,8 +28,11 @@ returns-2 c =
     let h = l .before .before .before .before .before in
     let s = h .before .before .before in
     let done = (sym (t .is-done .ensures) ∙ not-false _ (c .before .before .before .before .if1 .left)) in
-    let placed = lock-placed (s .args .t1) (s .args .x) _ (sized (s .args .t1) (s .good .0)) (h .head-of .ensures) (l .locked-by-another .ensures) (t .before .before .before .admitted .ensures) (t .before .before .healthy .ensures) (t .before .lock-refusal .ensures) done in
-    lock-done (s .args .t1) (s .args .x) _ (sized (s .args .t1) (s .good .0)) (h .head-of .ensures) (l .locked-by-another .ensures) (t .before .before .before .admitted .ensures) (t .before .before .healthy .ensures) (t .before .lock-refusal .ensures) done (c .apply .ensures ∙ apply-held _ (adds-all (c .before .before .plan-lock .ensures (omega (arith, slots-placed))) (omega (arith, call-puts))))
+    let placed = lock-placed (s .args .t1) (s .args .x) _ (sized (s .args .t1) (s .good .0)) (h .head-of .ensures) (l .locked-by-another .ensures)
+    (t .before .before .before .admitted .ensures) (t .before .before .healthy .ensures) (t .before .lock-refusal .ensures) done in
+    lock-done (s .args .t1) (s .args .x) _ (sized (s .args .t1) (s .good .0)) (h .head-of .ensures) (l .locked-by-another .ensures)
+    (t .before .before .before .admitted .ensures) (t .before .before .healthy .ensures) (t .before .lock-refusal .ensures) done
+    (c .apply .ensures ∙ apply-held _ (adds-all (c .before .before .plan-lock .ensures (omega (arith, slots-placed))) (omega (arith, call-puts))))
 
 pub row-lock-spec : {M : Type 1} → statement M
 row-lock-spec =

@@ -13,7 +13,9 @@ returns c =
     let l = t .before .before .before .before in
     let m = l .before .before .before .before .before .before in
     let s = m .before .before .before in
-    lookup-refused (s .args .t1) (s .args .x) _ (sized (s .args .t1) (s .good .0)) (m .candidates .ensures) (l .record-marked .ensures) (t .before .before .before .admitted .ensures) (t .before .before .healthy .ensures) (t .before .lookup-refusal .ensures) (sym (t .is-done .ensures) ∙ not-true _ (c .if1 .taken))
+    lookup-refused (s .args .t1) (s .args .x) _ (sized (s .args .t1) (s .good .0)) (m .candidates .ensures) (l .record-marked .ensures)
+    (t .before .before .before .admitted .ensures) (t .before .before .healthy .ensures) (t .before .lookup-refusal .ensures)
+    (sym (t .is-done .ensures) ∙ not-true _ (c .if1 .taken))
 
 returns-2 : tie.Need-returns-2
 returns-2 c =
@@ -21,7 +23,8 @@ returns-2 c =
     let l = t .before .before .before .before in
     let m = l .before .before .before .before .before .before in
     let s = m .before .before .before in
-    lookup-done (s .args .t1) (s .args .x) _ (sized (s .args .t1) (s .good .0)) (m .candidates .ensures) (l .record-marked .ensures) (t .before .before .before .admitted .ensures) (t .before .before .healthy .ensures) (t .before .lookup-refusal .ensures)
+    lookup-done (s .args .t1) (s .args .x) _ (sized (s .args .t1) (s .good .0)) (m .candidates .ensures) (l .record-marked .ensures)
+    (t .before .before .before .admitted .ensures) (t .before .before .healthy .ensures) (t .before .lookup-refusal .ensures)
     (sym (t .is-done .ensures) ∙ not-false _ (c .before .before .before .before .before .before .before .before .before .before .before .before .if1 .left))
     (c .before .before .before .before .matching .ensures)
     (c .before .looked .ensures)

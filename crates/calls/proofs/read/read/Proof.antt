@@ -12,14 +12,16 @@ returns c =
     let t = c .before in
     let l = t .before .before .before .before in
     let s = l .before .before .before .before .before in
-    read-refused (s .args .t1) (s .args .x) _ (sized (s .args .t1) (s .good .0)) (l .with-read .ensures) (t .before .before .before .admitted .ensures) (t .before .before .healthy .ensures) (t .before .read-refusal .ensures) (sym (t .is-done .ensures) ∙ not-true _ (c .if1 .taken))
+    read-refused (s .args .t1) (s .args .x) _ (sized (s .args .t1) (s .good .0)) (l .with-read .ensures) (t .before .before .before .admitted .ensures)
+    (t .before .before .healthy .ensures) (t .before .read-refusal .ensures) (sym (t .is-done .ensures) ∙ not-true _ (c .if1 .taken))
 
 returns-2 : tie.Need-returns-2
 returns-2 c =
     let t = c .before .before .before .before .before .before .before .before .before .before .before in
     let l = t .before .before .before .before in
     let s = l .before .before .before .before .before in
-    read-done (s .args .t1) (s .args .x) _ (sized (s .args .t1) (s .good .0)) (l .with-read .ensures) (t .before .before .before .admitted .ensures) (t .before .before .healthy .ensures) (t .before .read-refusal .ensures)
+    read-done (s .args .t1) (s .args .x) _ (sized (s .args .t1) (s .good .0)) (l .with-read .ensures)
+    (t .before .before .before .admitted .ensures) (t .before .before .healthy .ensures) (t .before .read-refusal .ensures)
     (sym (t .is-done .ensures) ∙ not-false _ (c .before .before .before .before .before .before .before .before .before .before .if1 .left))
     (c .before .before .before .before .before .read-ptr .ensures)
     (c .before .value-at .ensures)

@@ -13,15 +13,20 @@ returns c = unless-kept _ _ (sym (c .before .is-done .ensures) ∙ not-true _ (c
 
 returns-2 : tie.Need-returns-2
 unfolding readTries
-returns-2 c = unless-more _ _ _ (sym (c .before .before .before .is-done .ensures) ∙ not-false _ (c .before .before .if1 .left)) (rw (le-leb rows _ (c .if2 .taken)))
+returns-2 c =
+    unless-more _ _ _ (sym (c .before .before .before .is-done .ensures) ∙ not-false _ (c .before .before .if1 .left)) (rw (le-leb rows _ (c .if2 .taken)))
 
 returns-3 : tie.Need-returns-3
 unfolding readTries
-returns-3 c = unless-more _ _ _ (sym (c .before .before .before .before .is-done .ensures) ∙ not-false _ (c .before .before .before .if1 .left)) (rw (lt-leb rows _ (c .before .if2 .left), c .if3 .taken))
+returns-3 c =
+    unless-more _ _ _ (sym (c .before .before .before .before .is-done .ensures) ∙ not-false _ (c .before .before .before .if1 .left))
+    (rw (lt-leb rows _ (c .before .if2 .left), c .if3 .taken))
 
 returns-4 : tie.Need-returns-4
 unfolding readTries
-returns-4 c = unless-more _ _ _ (sym (c .before .before .before .before .is-done .ensures) ∙ not-false _ (c .before .before .before .if1 .left)) (rw (lt-leb rows _ (c .before .if2 .left), c .if3 .left))
+returns-4 c =
+    unless-more _ _ _ (sym (c .before .before .before .before .is-done .ensures) ∙ not-false _ (c .before .before .before .if1 .left))
+    (rw (lt-leb rows _ (c .before .if2 .left), c .if3 .left))
 
 pub read-refusal-spec : {M : Type 1} → statement M
 read-refusal-spec = tie.close (tie.spec (λ c κs. search needs) returns returns-2 returns-3 returns-4)

@@ -16,16 +16,20 @@ returns c =
     let t = c .before in
     let f = t .before .before .before .before in
     let s = f .before .before .before in
-    write-refused (s .args .t1) (s .args .x) _ (s .args .v) (sized (s .args .t1) (s .good .0)) (f .lowest-free .ensures) (t .before .before .before .admitted .ensures) (t .before .before .healthy .ensures) (t .before .write-refusal .ensures) (sym (t .is-done .ensures) ∙ not-true _ (c .if1 .taken))
+    write-refused (s .args .t1) (s .args .x) _ (s .args .v) (sized (s .args .t1) (s .good .0)) (f .lowest-free .ensures)
+    (t .before .before .before .admitted .ensures) (t .before .before .healthy .ensures) (t .before .write-refusal .ensures)
+    (sym (t .is-done .ensures) ∙ not-true _ (c .if1 .taken))
 
 returns-2 : tie.Need-returns-2
 returns-2 c =
     let t = c .before .before .before .before .before .before .before .before .before .before .before in
     let f = t .before .before .before .before in
     let s = f .before .before .before in
-    let placed = write-placed (s .args .t1) (s .args .x) _ (s .args .v) (sized (s .args .t1) (s .good .0)) (f .lowest-free .ensures) (t .before .before .before .admitted .ensures) (t .before .before .healthy .ensures) (t .before .write-refusal .ensures) in
+    let placed = write-placed (s .args .t1) (s .args .x) _ (s .args .v) (sized (s .args .t1) (s .good .0)) (f .lowest-free .ensures)
+    (t .before .before .before .admitted .ensures) (t .before .before .healthy .ensures) (t .before .write-refusal .ensures) in
     let few = takes-few (f .lowest-free .result .0) (s .args .x .txid .0) (c .before .before .before .before .before .base-of .result .0) (s .args .v) in
-    write-done (s .args .t1) (s .args .x) _ (s .args .v) (sized (s .args .t1) (s .good .0)) (f .lowest-free .ensures) (t .before .before .before .admitted .ensures) (t .before .before .healthy .ensures) (t .before .write-refusal .ensures)
+    write-done (s .args .t1) (s .args .x) _ (s .args .v) (sized (s .args .t1) (s .good .0)) (f .lowest-free .ensures)
+    (t .before .before .before .admitted .ensures) (t .before .before .healthy .ensures) (t .before .write-refusal .ensures)
     (sym (t .is-done .ensures) ∙ not-false _ (c .before .before .before .before .before .before .before .before .before .before .if1 .left))
     (c .before .before .before .before .before .base-of .ensures)
     (c .apply .ensures ∙ apply-held _ (adds-all (c .before .before .before .plan-write .ensures (omega (arith, slots-placed))) few))

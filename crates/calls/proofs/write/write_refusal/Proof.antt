@@ -13,19 +13,28 @@ returns c = unless-kept _ _ (sym (c .before .is-done .ensures) ∙ not-true _ (c
 
 returns-2 : tie.Need-returns-2
 unfolding writeTries
-returns-2 c = unless-more _ _ _ (sym (c .before .before .before .is-done .ensures) ∙ not-false _ (c .before .before .if1 .left)) (rw (le-leb rows _ (c .if2 .taken)))
+returns-2 c =
+    unless-more _ _ _ (sym (c .before .before .before .is-done .ensures) ∙ not-false _ (c .before .before .if1 .left)) (rw (le-leb rows _ (c .if2 .taken)))
 
 returns-3 : tie.Need-returns-3
 unfolding writeTries
-returns-3 c = unless-more _ _ _ (sym (c .before .before .before .before .is-done .ensures) ∙ not-false _ (c .before .before .before .if1 .left)) (rw (lt-leb rows _ (c .before .if2 .left), le-leb writeLimit _ (c .if3 .taken)))
+returns-3 c =
+    unless-more _ _ _ (sym (c .before .before .before .before .is-done .ensures) ∙ not-false _ (c .before .before .before .if1 .left))
+    (rw (lt-leb rows _ (c .before .if2 .left), le-leb writeLimit _ (c .if3 .taken)))
 
 returns-4 : tie.Need-returns-4
 unfolding writeTries
-returns-4 c = unless-more _ _ _ (sym (c .before .before .before .before .before .before .is-done .ensures) ∙ not-false _ (c .before .before .before .before .before .if1 .left)) (rw (lt-leb rows _ (c .before .before .before .if2 .left), lt-leb writeLimit _ (c .before .before .if3 .left), eq-eqb _ 0 (c .if4 .taken)))
+returns-4 c =
+    unless-more _ _ _
+    (sym (c .before .before .before .before .before .before .is-done .ensures) ∙ not-false _ (c .before .before .before .before .before .if1 .left))
+    (rw (lt-leb rows _ (c .before .before .before .if2 .left), lt-leb writeLimit _ (c .before .before .if3 .left), eq-eqb _ 0 (c .if4 .taken)))
 
 returns-5 : tie.Need-returns-5
 unfolding writeTries
-returns-5 c = unless-more _ _ _ (sym (c .before .before .before .before .before .before .is-done .ensures) ∙ not-false _ (c .before .before .before .before .before .if1 .left)) (rw (lt-leb rows _ (c .before .before .before .if2 .left), lt-leb writeLimit _ (c .before .before .if3 .left), ne-eqb _ 0 (c .if4 .left)))
+returns-5 c =
+    unless-more _ _ _
+    (sym (c .before .before .before .before .before .before .is-done .ensures) ∙ not-false _ (c .before .before .before .before .before .if1 .left))
+    (rw (lt-leb rows _ (c .before .before .before .if2 .left), lt-leb writeLimit _ (c .before .before .if3 .left), ne-eqb _ 0 (c .if4 .left)))
 
 pub write-refusal-spec : {M : Type 1} → statement M
 write-refusal-spec = tie.close (tie.spec (λ c κs. search needs) returns returns-2 returns-3 returns-4 returns-5)

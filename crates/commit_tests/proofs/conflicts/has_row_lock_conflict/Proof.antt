@@ -16,7 +16,11 @@ use Rattle.commit_tests.proofs.conflicts.has_row_lock_conflict.Statemen
 use Rattle.commit_tests.proofs.conflicts.has_row_lock_conflict.Tie as tie
 
 abbrev Inv-loop : tie.InvT-loop
-Inv-loop heads locked owner active x n i₀ i = (i ≤ n) × (n ≡ min (x .«write_count») writeLimit) × ((S : Store) → S .heads ≡ atRows heads → S .locked ≡ flagsAtPlaces locked → S .owner ≡ atPlaces owner → S .active ≡ atActive active → any (headLocked (atRows heads) (flagsAtPlaces locked) (atPlaces owner) (atActive active) (x .txid .0)) (firstFrom (x .«write_count») (x .writes) i) ≡ rowLockConflict S x)
+Inv-loop heads locked owner active x n i₀ i =
+    (i ≤ n) × (n ≡ min (x .«write_count») writeLimit)
+    × ((S : Store) → S .heads ≡ atRows heads → S .locked ≡ flagsAtPlaces locked → S .owner ≡ atPlaces owner → S .active ≡ atActive active
+    → any (headLocked (atRows heads) (flagsAtPlaces locked) (atPlaces owner) (atActive active) (x .txid .0)) (firstFrom (x .«write_count») (x .writes) i)
+    ≡ rowLockConflict S x)
 
 abbrev μ-loop : tie.MeasureT-loop
 μ-loop heads locked owner active x n i₀ i = n - i
@@ -29,13 +33,20 @@ returns : tie.Need-returns Inv-loop μ-loop
 unfolding headLocked
 returns c = let x = c .before .before .before .before .before .before .before .before .args .t5 in
     let long = writes-long x (c .before .before .before .before .before .before .before .before .good .1 .1 .1 .1 .0) in
-    λ S h l o a. sym (any-first _ _ _ _ (first-next (x .«write_count») (x .writes) _ noWrite (omega arith)) (rw (← c .before .before .before .head-of .ensures, ← c .before .locked-by-another .ensures) (c .if1 .taken))) ∙ c .before .before .before .before .before .before .loop .inv .2 S h l o a
+    λ S h l o a. sym (any-first _ _ _ _ (first-next (x .«write_count») (x .writes) _ noWrite (omega arith))
+    (rw (← c .before .before .before .head-of .ensures, ← c .before .locked-by-another .ensures) (c .if1 .taken)))
+    ∙ c .before .before .before .before .before .before .loop .inv .2 S h l o a
 
 loop-again : tie.Need-loop-again Inv-loop μ-loop
 unfolding headLocked
 loop-again c = let x = c .before .before .before .before .before .before .before .before .args .t5 in
-    let long = writes-long x (c .before .before .before .before .before .before .before .before .good .1 .1 .1 .1 .0) in
-    (omega arith, omega arith, λ S h l o a. sym (any-rest _ _ _ _ (first-next (x .«write_count») (x .writes) _ noWrite (omega arith)) (rw (← c .before .before .before .head-of .ensures, ← c .before .locked-by-another .ensures) (c .if1 .left))) ∙ c .before .before .before .before .before .before .loop .inv .2 S h l o a)
+    let long = writes-long x (c .before .before .before .before .before .before .before .before .good .1 .1 .1 .1 .0) in (
+      omega arith,
+      omega arith,
+      λ S h l o a. sym (any-rest _ _ _ _ (first-next (x .«write_count») (x .writes) _ noWrite (omega arith))
+          (rw (← c .before .before .before .head-of .ensures, ← c .before .locked-by-another .ensures) (c .if1 .left)))
+          ∙ c .before .before .before .before .before .before .loop .inv .2 S h l o a,
+    )
 
 returns-2 : tie.Need-returns-2 Inv-loop μ-loop
 returns-2 c = let x = c .before .before .before .args .t5 in

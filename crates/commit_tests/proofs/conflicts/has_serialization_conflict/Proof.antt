@@ -17,7 +17,11 @@ use Rattle.commit_tests.proofs.conflicts.has_serialization_conflict.Sta
 use Rattle.commit_tests.proofs.conflicts.has_serialization_conflict.Tie as tie
 
 abbrev Inv-loop : tie.InvT-loop
-Inv-loop xmin xmax x n i₀ i = (i ≤ n) × (n ≡ min (x .«read_count») readLimit) × ((S : Store) → S .xmin ≡ atPlaces xmin → S .xmax ≡ atPlaces xmax → any (readConflictOf (atPlaces xmin) (atPlaces xmax) (snapshotOf x) (x .txid .0) (x .«snapshot_xmax» .0)) (firstFrom (x .«read_count») (x .reads) i) ≡ serializationConflict S x)
+Inv-loop xmin xmax x n i₀ i =
+    (i ≤ n) × (n ≡ min (x .«read_count») readLimit)
+    × ((S : Store) → S .xmin ≡ atPlaces xmin → S .xmax ≡ atPlaces xmax
+    → any (readConflictOf (atPlaces xmin) (atPlaces xmax) (snapshotOf x) (x .txid .0) (x .«snapshot_xmax» .0)) (firstFrom (x .«read_count») (x .reads) i)
+    ≡ serializationConflict S x)
 
 abbrev μ-loop : tie.MeasureT-loop
 μ-loop xmin xmax x n i₀ i = n - i
@@ -29,12 +33,23 @@ loop-holds c = (omega arith, omega arith, λ S m n. serialization-of S _ m n)
 returns : tie.Need-returns Inv-loop μ-loop
 returns c = let x = c .before .before .before .before .before .before .before .before .before .before .args .t3 in
     let long = reads-long x (c .before .before .before .before .before .before .before .before .before .before .good .1 .1 .0) in
-    λ S m n. sym (any-first _ _ _ _ (first-next (x .«read_count») (x .reads) _ noRead (omega arith)) (rw (← array-same activeLimit 0 (x .snapshot) (snapshot-long x (c .before .before .before .before .before .before .before .before .before .before .good .1 .1 .0)), ← c .before .read-conflict .ensures) (c .if1 .taken))) ∙ c .before .before .before .before .before .before .before .before .loop .inv .2 S m n
+    λ S m n. sym (any-first _ _ _ _ (first-next (x .«read_count») (x .reads) _ noRead (omega arith)) (rw (
+      ← array-same activeLimit 0 (x .snapshot)
+          (snapshot-long x (c .before .before .before .before .before .before .before .before .before .before .good .1 .1 .0)),
+      ← c .before .read-conflict .ensures,
+    ) (c .if1 .taken))) ∙ c .before .before .before .before .before .before .before .before .loop .inv .2 S m n
 
 loop-again : tie.Need-loop-again Inv-loop μ-loop
 loop-again c = let x = c .before .before .before .before .before .before .before .before .before .before .args .t3 in
-    let long = reads-long x (c .before .before .before .before .before .before .before .before .before .before .good .1 .1 .0) in
-    (omega arith, omega arith, λ S m n. sym (any-rest _ _ _ _ (first-next (x .«read_count») (x .reads) _ noRead (omega arith)) (rw (← array-same activeLimit 0 (x .snapshot) (snapshot-long x (c .before .before .before .before .before .before .before .before .before .before .good .1 .1 .0)), ← c .before .read-conflict .ensures) (c .if1 .left))) ∙ c .before .before .before .before .before .before .before .before .loop .inv .2 S m n)
+    let long = reads-long x (c .before .before .before .before .before .before .before .before .before .before .good .1 .1 .0) in (
+      omega arith,
+      omega arith,
+      λ S m n. sym (any-rest _ _ _ _ (first-next (x .«read_count») (x .reads) _ noRead (omega arith)) (rw (
+        ← array-same activeLimit 0 (x .snapshot)
+            (snapshot-long x (c .before .before .before .before .before .before .before .before .before .before .good .1 .1 .0)),
+        ← c .before .read-conflict .ensures,
+      ) (c .if1 .left))) ∙ c .before .before .before .before .before .before .before .before .loop .inv .2 S m n,
+    )
 
 returns-2 : tie.Need-returns-2 Inv-loop μ-loop
 returns-2 c = let x = c .before .before .before .args .t3 in

@@ -17,7 +17,10 @@ use Rattle.commit_tests.proofs.conflicts.index_read_conflict.Statement.
 use Rattle.commit_tests.proofs.conflicts.index_read_conflict.Tie as tie
 
 abbrev Inv-loop : tie.InvT-loop
-Inv-loop stamps x n i₀ i = (i ≤ n) × (n ≡ min (x .«index_read_count») indexReadLimit) × ((S : Store) → S .stamps ≡ atStripes stamps → any (stampMoved (atStripes stamps)) (firstFrom (x .«index_read_count») (x .«index_reads») i) ≡ indexReadConflict S x)
+Inv-loop stamps x n i₀ i =
+    (i ≤ n) × (n ≡ min (x .«index_read_count») indexReadLimit)
+    × ((S : Store) → S .stamps ≡ atStripes stamps
+    → any (stampMoved (atStripes stamps)) (firstFrom (x .«index_read_count») (x .«index_reads») i) ≡ indexReadConflict S x)
 
 abbrev μ-loop : tie.MeasureT-loop
 μ-loop stamps x n i₀ i = n - i
@@ -33,13 +36,20 @@ returns-2 : tie.Need-returns-2 Inv-loop μ-loop
 unfolding stampMoved
 returns-2 c = let x = c .before .before .before .before .before .before .before .before .before .args .t2 in
     let long = index-reads-long x (c .before .before .before .before .before .before .before .before .before .good .1 .0) in
-    λ S s. sym (any-first _ _ _ _ (first-next (x .«index_read_count») (x .«index_reads») _ noIndexRead (omega arith)) (rw (← c .before .before .before .stamp-at .ensures, ne-eqb _ _ (c .if2 .taken)))) ∙ c .before .before .before .before .before .before .loop .inv .2 S s
+    λ S s. sym (any-first _ _ _ _ (first-next (x .«index_read_count») (x .«index_reads») _ noIndexRead (omega arith))
+    (rw (← c .before .before .before .stamp-at .ensures, ne-eqb _ _ (c .if2 .taken))))
+    ∙ c .before .before .before .before .before .before .loop .inv .2 S s
 
 loop-again : tie.Need-loop-again Inv-loop μ-loop
 unfolding stampMoved
 loop-again c = let x = c .before .before .before .before .before .before .before .before .before .args .t2 in
-    let long = index-reads-long x (c .before .before .before .before .before .before .before .before .before .good .1 .0) in
-    (omega arith, omega arith, λ S s. sym (any-rest _ _ _ _ (first-next (x .«index_read_count») (x .«index_reads») _ noIndexRead (omega arith)) (rw (← c .before .before .before .stamp-at .ensures, eq-eqb _ _ (c .if2 .left)))) ∙ c .before .before .before .before .before .before .loop .inv .2 S s)
+    let long = index-reads-long x (c .before .before .before .before .before .before .before .before .before .good .1 .0) in (
+      omega arith,
+      omega arith,
+      λ S s. sym (any-rest _ _ _ _ (first-next (x .«index_read_count») (x .«index_reads») _ noIndexRead (omega arith))
+          (rw (← c .before .before .before .stamp-at .ensures, eq-eqb _ _ (c .if2 .left))))
+          ∙ c .before .before .before .before .before .before .loop .inv .2 S s,
+    )
 
 returns-3 : tie.Need-returns-3 Inv-loop μ-loop
 returns-3 c = let x = c .before .before .before .before .args .t2 in

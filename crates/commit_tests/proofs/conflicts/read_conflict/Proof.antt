@@ -12,19 +12,44 @@ returns c = rw (← c .before .before .before .txid-at .ensures, ne-eqb _ _ (c .
 
 returns-2 : tie.Need-returns-2
 unfolding readConflictOf
-returns-2 c = rw (← c .before .before .before .before .before .before .txid-at .ensures, eq-eqb _ _ (c .before .before .before .if1 .left), ← c .before .before .txid-at2 .ensures, c .if2 .taken)
+returns-2 c = rw (
+  ← c .before .before .before .before .before .before .txid-at .ensures,
+  eq-eqb _ _ (c .before .before .before .if1 .left),
+  ← c .before .before .txid-at2 .ensures,
+  c .if2 .taken,
+)
 
 returns-3 : tie.Need-returns-3
 unfolding readConflictOf
-returns-3 c = rw (← c .before .before .before .before .before .before .before .before .before .txid-at .ensures, eq-eqb _ _ (c .before .before .before .before .before .before .if1 .left), ← c .before .before .before .before .before .txid-at2 .ensures, eq-eqb _ _ (c .if3 .taken), or-true)
+returns-3 c = rw (
+  ← c .before .before .before .before .before .before .before .before .before .txid-at .ensures,
+  eq-eqb _ _ (c .before .before .before .before .before .before .if1 .left),
+  ← c .before .before .before .before .before .txid-at2 .ensures,
+  eq-eqb _ _ (c .if3 .taken),
+  or-true,
+)
 
 returns-4 : tie.Need-returns-4
 unfolding readConflictOf
-returns-4 c = rw (← c .before .before .before .before .before .before .before .before .before .before .before .before .txid-at .ensures, eq-eqb _ _ (c .before .before .before .before .before .before .before .before .before .if1 .left), ← c .before .before .before .before .before .before .before .before .txid-at2 .ensures, ne-eqb _ _ (c .before .before .before .before .before .before .if2 .left), ne-eqb _ _ (c .before .before .before .if3 .left), le-leb _ _ (c .if4 .taken))
+returns-4 c = rw (
+  ← c .before .before .before .before .before .before .before .before .before .before .before .before .txid-at .ensures,
+  eq-eqb _ _ (c .before .before .before .before .before .before .before .before .before .if1 .left),
+  ← c .before .before .before .before .before .before .before .before .txid-at2 .ensures,
+  ne-eqb _ _ (c .before .before .before .before .before .before .if2 .left),
+  ne-eqb _ _ (c .before .before .before .if3 .left),
+  le-leb _ _ (c .if4 .taken),
+)
 
 returns-5 : tie.Need-returns-5
 unfolding readConflictOf
-returns-5 c = rw (← c .before .before .before .before .before .before .before .before .before .before .before .before .before .txid-at .ensures, eq-eqb _ _ (c .before .before .before .before .before .before .before .before .before .before .if1 .left), ← c .before .before .before .before .before .before .before .before .before .txid-at2 .ensures, ne-eqb _ _ (c .before .before .before .before .before .before .before .if2 .left), ne-eqb _ _ (c .before .before .before .before .if3 .left), lt-leb _ _ (c .before .if4 .left)) (c .in-snapshot .ensures)
+returns-5 c = rw (
+  ← c .before .before .before .before .before .before .before .before .before .before .before .before .before .txid-at .ensures,
+  eq-eqb _ _ (c .before .before .before .before .before .before .before .before .before .before .if1 .left),
+  ← c .before .before .before .before .before .before .before .before .before .txid-at2 .ensures,
+  ne-eqb _ _ (c .before .before .before .before .before .before .before .if2 .left),
+  ne-eqb _ _ (c .before .before .before .before .if3 .left),
+  lt-leb _ _ (c .before .if4 .left),
+) (c .in-snapshot .ensures)
 
 pub read-conflict-spec : {M : Type 1} → statement M
 read-conflict-spec =

@@ -29,13 +29,23 @@ array-set-from-at c = let few = c .before .before .before .before .loop .inv .3 
 
 loop-again : tie.Need-loop-again Inv-loop μ-loop
 loop-again c = let x = c .before .before .before .before .before .before .before .args .x in
-    let long = writes-long x (c .before .before .before .before .before .before .before .good .0) in
-    (omega arith, omega arith, refl, laid-here x _ _ _ _ (c .before .before .before .before .loop .inv .3) (first-next (x .«write_count») (x .writes) _ noWrite (omega arith)) (omega arith) (not-true _ (sym (c .before .unwritten-from .ensures) ∙ c .if1 .taken)))
+    let long = writes-long x (c .before .before .before .before .before .before .before .good .0) in (
+      omega arith,
+      omega arith,
+      refl,
+      laid-here x _ _ _ _ (c .before .before .before .before .loop .inv .3) (first-next (x .«write_count») (x .writes) _ noWrite (omega arith))
+          (omega arith) (not-true _ (sym (c .before .unwritten-from .ensures) ∙ c .if1 .taken)),
+    )
 
 loop-again-2 : tie.Need-loop-again-2 Inv-loop μ-loop
 loop-again-2 c = let x = c .before .before .before .before .before .before .before .args .x in
-    let long = writes-long x (c .before .before .before .before .before .before .before .good .0) in
-    (omega arith, omega arith, refl, laid-later x _ _ _ _ (c .before .before .before .before .loop .inv .3) (first-next (x .«write_count») (x .writes) _ noWrite (omega arith)) (not-false _ (sym (c .before .unwritten-from .ensures) ∙ c .if1 .left)))
+    let long = writes-long x (c .before .before .before .before .before .before .before .good .0) in (
+      omega arith,
+      omega arith,
+      refl,
+      laid-later x _ _ _ _ (c .before .before .before .before .loop .inv .3) (first-next (x .«write_count») (x .writes) _ noWrite (omega arith))
+          (not-false _ (sym (c .before .unwritten-from .ensures) ∙ c .if1 .left)),
+    )
 
 returns : tie.Need-returns Inv-loop μ-loop
 returns c = let x = c .before .before .before .before .args .x in

@@ -12,7 +12,8 @@ use Rattle.fields.proofs.txids.in_snapshot.Statement.{statement}
 use Rattle.fields.proofs.txids.in_snapshot.Tie as tie
 
 abbrev Inv-loop : tie.InvT-loop
-Inv-loop snapshot count t n i₀ i = (i ≤ n) × (n ≡ min count activeLimit) × (memb (t .0) (firstFrom count (atActive snapshot) i) ≡ memb (t .0) (take count (atActive snapshot)))
+Inv-loop snapshot count t n i₀ i =
+    (i ≤ n) × (n ≡ min count activeLimit) × (memb (t .0) (firstFrom count (atActive snapshot) i) ≡ memb (t .0) (take count (atActive snapshot)))
 
 abbrev μ-loop : tie.MeasureT-loop
 μ-loop snapshot count t n i₀ i = n - i
@@ -25,7 +26,11 @@ returns : tie.Need-returns Inv-loop μ-loop
 returns c = sym (memb-first _ _ _ _ (lent-next activeLimit _ 0 _ _ (omega arith)) (c .if1 .taken)) ∙ c .before .before .before .before .loop .inv .2
 
 loop-again : tie.Need-loop-again Inv-loop μ-loop
-loop-again c = (omega arith, omega arith, sym (memb-rest _ _ _ _ (lent-next activeLimit _ 0 _ _ (omega arith)) (c .if1 .left)) ∙ c .before .before .before .before .loop .inv .2)
+loop-again c = (
+  omega arith,
+  omega arith,
+  sym (memb-rest _ _ _ _ (lent-next activeLimit _ 0 _ _ (omega arith)) (c .if1 .left)) ∙ c .before .before .before .before .loop .inv .2,
+)
 
 returns-2 : tie.Need-returns-2 Inv-loop μ-loop
 returns-2 c = ap (memb _) (sym (lent-end activeLimit _ 0 _ _ (omega arith))) ∙ c .before .loop .inv .2

@@ -26,10 +26,16 @@ returns : tie.Need-returns Inv-loop μ-loop
 returns c = ap (memb _) (sym (active-zero _ _ (c .before .before .loop-test .taken) (c .if1 .taken))) ∙ c .before .before .before .loop .inv .1
 
 returns-2 : tie.Need-returns-2 Inv-loop μ-loop
-returns-2 c = sym (memb-first _ _ _ _ (active-next _ _ (omega arith) (c .before .before .if1 .left)) (c .if2 .taken)) ∙ c .before .before .before .before .before .loop .inv .1
+returns-2 c =
+    sym (memb-first _ _ _ _ (active-next _ _ (omega arith) (c .before .before .if1 .left)) (c .if2 .taken))
+    ∙ c .before .before .before .before .before .loop .inv .1
 
 loop-again : tie.Need-loop-again Inv-loop μ-loop
-loop-again c = (omega arith, sym (memb-rest _ _ _ _ (active-next _ _ (omega arith) (c .before .before .if1 .left)) (c .if2 .left)) ∙ c .before .before .before .before .before .loop .inv .1)
+loop-again c = (
+  omega arith,
+  sym (memb-rest _ _ _ _ (active-next _ _ (omega arith) (c .before .before .if1 .left)) (c .if2 .left))
+      ∙ c .before .before .before .before .before .loop .inv .1,
+)
 
 returns-3 : tie.Need-returns-3 Inv-loop μ-loop
 returns-3 c = ap (memb _) (sym (active-end _ _ (c .loop-test .left))) ∙ c .before .loop .inv .1

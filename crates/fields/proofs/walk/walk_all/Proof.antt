@@ -78,7 +78,8 @@ rows-again c = (omega arith, search needs, sym (after-end _ _ _ _ (row-end _ _ _
 returns : tie.Need-returns Inv-loop μ-loop Inv-rows μ-rows
 returns c =
     let l : length (atRows (c .before .before .before .args .heads .now)) ≡ rows = array-length rows 0 _ in
-    rw (c .before .rows .inv .1) (sym (rows-end _ (atRows (c .before .before .before .args .heads .now)) _ (c .before .rows .r) (omega arith)) ∙ c .before .rows .inv .2)
+    rw (c .before .rows .inv .1)
+    (sym (rows-end _ (atRows (c .before .before .before .args .heads .now)) _ (c .before .rows .r) (omega arith)) ∙ c .before .rows .inv .2)
 
 returns-2 : tie.Need-returns-2 Inv-loop μ-loop Inv-rows μ-rows
 returns-2 c =

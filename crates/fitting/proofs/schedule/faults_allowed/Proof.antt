@@ -25,10 +25,16 @@ unfolding firstLeft
 loop-holds c = search needs
 
 returns : tie.Need-returns Inv-loop μ-loop
-returns c = first-fail _ _ _ _ _ _ _ (c .before .before .before .before .loop .inv .1) (omega arith) (omega arith) (sym (c .before .fault-allowed .ensures) ∙ not-true _ (c .if1 .taken))
+returns c =
+    first-fail _ _ _ _ _ _ _ (c .before .before .before .before .loop .inv .1) (omega arith) (omega arith)
+    (sym (c .before .fault-allowed .ensures) ∙ not-true _ (c .if1 .taken))
 
 loop-again : tie.Need-loop-again Inv-loop μ-loop
-loop-again c = (omega arith, first-pass _ _ _ _ _ _ _ (c .before .before .before .before .loop .inv .1) (omega arith) (omega arith) (sym (c .before .fault-allowed .ensures) ∙ not-false _ (c .if1 .left)))
+loop-again c = (
+  omega arith,
+  first-pass _ _ _ _ _ _ _ (c .before .before .before .before .loop .inv .1) (omega arith) (omega arith)
+      (sym (c .before .fault-allowed .ensures) ∙ not-false _ (c .if1 .left)),
+)
 
 returns-2 : tie.Need-returns-2 Inv-loop μ-loop
 returns-2 c = first-none _ _ _ _ _ _ _ (c .before .loop .inv .1) (omega arith)

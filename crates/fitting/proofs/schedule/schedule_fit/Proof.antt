@@ -28,7 +28,9 @@ steps-apart-requires : tie.Need-steps-apart-requires
 steps-apart-requires c κs = ⊎-elim (λ w. omega arith) (λ w. omega arith) (c .before .before .if1 .came)
 
 returns : tie.Need-returns
-returns c = schedule-apart (c .before .before .before .before .before .args .c) _ (firsts (c .before .before .before)) _ (c .before .before .faults-allowed .ensures) _ (c .before .if2 .taken) (c .steps-apart .ensures)
+returns c =
+    schedule-apart (c .before .before .before .before .before .args .c) _ (firsts (c .before .before .before)) _
+    (c .before .before .faults-allowed .ensures) _ (c .before .if2 .taken) (c .steps-apart .ensures)
 
 returns-2 : tie.Need-returns-2
 returns-2 c = schedule-unfit (c .before .before .before .before .args .c) _ (firsts (c .before .before)) _ (c .before .faults-allowed .ensures) (c .if2 .left)

@@ -25,10 +25,16 @@ unfolding apartLeft
 loop-holds c = (omega arith, sym (steps-apart (take (c .args .n) (array faultLimit noFault (c .args .faults)))))
 
 returns : tie.Need-returns Inv-loop μ-loop
-returns c = apart-fail _ _ _ _ _ _ _ (c .before .before .before .loop .inv .1) (omega arith) (omega arith) (sym (c .before .steps-differ .ensures) ∙ not-true _ (c .if1 .taken))
+returns c =
+    apart-fail _ _ _ _ _ _ _ (c .before .before .before .loop .inv .1) (omega arith) (omega arith)
+    (sym (c .before .steps-differ .ensures) ∙ not-true _ (c .if1 .taken))
 
 loop-again : tie.Need-loop-again Inv-loop μ-loop
-loop-again c = (omega arith, apart-pass _ _ _ _ _ _ _ (c .before .before .before .loop .inv .1) (omega arith) (omega arith) (sym (c .before .steps-differ .ensures) ∙ not-false _ (c .if1 .left)))
+loop-again c = (
+  omega arith,
+  apart-pass _ _ _ _ _ _ _ (c .before .before .before .loop .inv .1) (omega arith) (omega arith)
+      (sym (c .before .steps-differ .ensures) ∙ not-false _ (c .if1 .left)),
+)
 
 returns-2 : tie.Need-returns-2 Inv-loop μ-loop
 returns-2 c = apart-end _ _ _ _ _ _ _ (c .before .loop .inv .1) (omega arith)

@@ -15,7 +15,9 @@ use Rattle.fitting.proofs.schedule.steps_differ.Statement.{statement}
 use Rattle.fitting.proofs.schedule.steps_differ.Tie as tie
 
 abbrev Inv-loop : tie.InvT-loop
-Inv-loop n i faults step j₀ j = (j ≤ n) × (firstLeft (stepsDiffer (getD faults i noFault)) n faultLimit noFault faults j ≡ all (stepsDiffer (getD faults i noFault)) (drop (i + 1) (take n (array faultLimit noFault faults))))
+Inv-loop n i faults step j₀ j =
+    (j ≤ n) × (firstLeft (stepsDiffer (getD faults i noFault)) n faultLimit noFault faults j
+    ≡ all (stepsDiffer (getD faults i noFault)) (drop (i + 1) (take n (array faultLimit noFault faults))))
 
 abbrev μ-loop : tie.MeasureT-loop
 μ-loop n i faults step j₀ j = n - j

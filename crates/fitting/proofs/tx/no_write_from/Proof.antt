@@ -33,7 +33,9 @@ returns-3 : tie.Need-returns-3 Inv-loop μ-loop
 returns-3 c = all-fail _ _ _ _ _ _ (c .before .before .before .before .loop .inv) (omega arith) (write-new-set _ (c .if3 .taken))
 
 loop-again : tie.Need-loop-again Inv-loop μ-loop
-loop-again c = all-pass _ _ _ _ _ _ (c .before .before .before .before .loop .inv) (omega arith) (write-unset _ (c .before .before .if1 .left) (c .before .if2 .left) (c .if3 .left))
+loop-again c =
+    all-pass _ _ _ _ _ _ (c .before .before .before .before .loop .inv) (omega arith)
+    (write-unset _ (c .before .before .if1 .left) (c .before .if2 .left) (c .if3 .left))
 
 returns-4 : tie.Need-returns-4 Inv-loop μ-loop
 returns-4 c = all-end _ _ _ _ _ _ (c .before .loop .inv) (omega arith)

@@ -25,16 +25,29 @@ unfolding firstLeft
 loop-holds c = search needs
 
 returns : tie.Need-returns Inv-loop μ-loop
-returns c = first-fail _ _ _ _ _ _ _ (c .before .before .loop .inv .1) (omega arith) (omega arith) (read-row (getD (c .before .before .before .args .t1) (c .before .before .loop .i) noRead) (c .if1 .taken))
+returns c =
+    first-fail _ _ _ _ _ _ _ (c .before .before .loop .inv .1) (omega arith) (omega arith)
+    (read-row (getD (c .before .before .before .args .t1) (c .before .before .loop .i) noRead) (c .if1 .taken))
 
 returns-2 : tie.Need-returns-2 Inv-loop μ-loop
-returns-2 c = first-fail _ _ _ _ _ _ _ (c .before .before .before .before .loop .inv .1) (omega arith) (omega arith) (read-low (getD (c .before .before .before .before .before .args .t1) (c .before .before .before .before .loop .i) noRead) _ (c .before .place .ensures) (c .if2 .taken))
+returns-2 c =
+    first-fail _ _ _ _ _ _ _ (c .before .before .before .before .loop .inv .1) (omega arith) (omega arith)
+    (read-low (getD (c .before .before .before .before .before .args .t1) (c .before .before .before .before .loop .i) noRead) _
+    (c .before .place .ensures) (c .if2 .taken))
 
 returns-3 : tie.Need-returns-3 Inv-loop μ-loop
-returns-3 c = first-fail _ _ _ _ _ _ _ (c .before .before .before .before .before .loop .inv .1) (omega arith) (omega arith) (read-high (getD (c .before .before .before .before .before .before .args .t1) (c .before .before .before .before .before .loop .i) noRead) _ (c .before .before .place .ensures) (c .if3 .taken))
+returns-3 c =
+    first-fail _ _ _ _ _ _ _ (c .before .before .before .before .before .loop .inv .1) (omega arith) (omega arith)
+    (read-high (getD (c .before .before .before .before .before .before .args .t1) (c .before .before .before .before .before .loop .i) noRead)
+    _ (c .before .before .place .ensures) (c .if3 .taken))
 
 loop-again : tie.Need-loop-again Inv-loop μ-loop
-loop-again c = (omega arith, first-pass _ _ _ _ _ _ _ (c .before .before .before .before .before .loop .inv .1) (omega arith) (omega arith) (read-fits (getD (c .before .before .before .before .before .before .args .t1) (c .before .before .before .before .before .loop .i) noRead) _ (c .before .before .place .ensures) (c .before .before .before .if1 .left) (c .before .if2 .left) (c .if3 .left)))
+loop-again c = (
+  omega arith,
+  first-pass _ _ _ _ _ _ _ (c .before .before .before .before .before .loop .inv .1) (omega arith) (omega arith)
+      (read-fits (getD (c .before .before .before .before .before .before .args .t1) (c .before .before .before .before .before .loop .i) noRead)
+      _ (c .before .before .place .ensures) (c .before .before .before .if1 .left) (c .before .if2 .left) (c .if3 .left)),
+)
 
 returns-4 : tie.Need-returns-4 Inv-loop μ-loop
 returns-4 c = first-none _ _ _ _ _ _ _ (c .before .loop .inv .1) (omega arith)

@@ -13,7 +13,9 @@ use Rattle.fitting.proofs.tx.savepoints_fit.Statement.{statement}
 use Rattle.fitting.proofs.tx.savepoints_fit.Tie as tie
 
 abbrev Inv-loop : tie.InvT-loop
-Inv-loop points n writes least₀ i₀ least i = (i ≤ n) × (climbLeft (λ p. p) (λ p. leb p writes) least n savepointLimit points i ≡ climb (λ p. p) (λ p. leb p writes) 0 (take n (array savepointLimit 0 points)))
+Inv-loop points n writes least₀ i₀ least i =
+    (i ≤ n) × (climbLeft (λ p. p) (λ p. leb p writes) least n savepointLimit points i
+    ≡ climb (λ p. p) (λ p. leb p writes) 0 (take n (array savepointLimit 0 points)))
 
 abbrev μ-loop : tie.MeasureT-loop
 μ-loop points n writes least₀ i₀ least i = n - i
@@ -26,10 +28,16 @@ returns : tie.Need-returns Inv-loop μ-loop
 returns c = climb-low _ _ _ _ _ _ _ _ (c .before .before .before .loop .inv .1) (omega arith) (omega arith) (c .if1 .taken)
 
 returns-2 : tie.Need-returns-2 Inv-loop μ-loop
-returns-2 c = climb-fails _ _ _ _ _ _ _ _ (c .before .before .before .before .loop .inv .1) (omega arith) (omega arith) (c .before .if1 .left) (lt-leb _ _ (c .if2 .taken))
+returns-2 c =
+    climb-fails _ _ _ _ _ _ _ _ (c .before .before .before .before .loop .inv .1) (omega arith) (omega arith) (c .before .if1 .left)
+    (lt-leb _ _ (c .if2 .taken))
 
 loop-again : tie.Need-loop-again Inv-loop μ-loop
-loop-again c = (omega arith, climb-pass _ _ _ _ _ _ _ _ (c .before .before .before .before .loop .inv .1) (omega arith) (omega arith) _ refl (c .before .if1 .left) (le-leb _ _ (c .if2 .left)))
+loop-again c = (
+  omega arith,
+  climb-pass _ _ _ _ _ _ _ _ (c .before .before .before .before .loop .inv .1) (omega arith) (omega arith) _ refl (c .before .if1 .left)
+      (le-leb _ _ (c .if2 .left)),
+)
 
 returns-3 : tie.Need-returns-3 Inv-loop μ-loop
 returns-3 c = climb-end _ _ _ _ _ _ _ _ (c .before .loop .inv .1) (omega arith)

@@ -27,10 +27,16 @@ returns : tie.Need-returns Inv-loop μ-loop
 returns c = stripes-high _ _ _ _ (c .before .before .before .loop .inv .1) (omega arith) (omega arith) _ (c .before .place .ensures) (c .if1 .taken)
 
 returns-2 : tie.Need-returns-2 Inv-loop μ-loop
-returns-2 c = stripes-twice _ _ _ _ (c .before .before .before .before .before .loop .inv .1) (omega arith) (omega arith) _ (c .before .before .before .place .ensures) (c .before .before .if1 .left) (sym (c .before .stripes-differ .ensures) ∙ not-true _ (c .if2 .taken))
+returns-2 c =
+    stripes-twice _ _ _ _ (c .before .before .before .before .before .loop .inv .1) (omega arith) (omega arith) _
+    (c .before .before .before .place .ensures) (c .before .before .if1 .left) (sym (c .before .stripes-differ .ensures) ∙ not-true _ (c .if2 .taken))
 
 loop-again : tie.Need-loop-again Inv-loop μ-loop
-loop-again c = (omega arith, stripes-pass _ _ _ _ (c .before .before .before .before .before .loop .inv .1) (omega arith) (omega arith) _ (c .before .before .before .place .ensures) (c .before .before .if1 .left) (sym (c .before .stripes-differ .ensures) ∙ not-false _ (c .if2 .left)))
+loop-again c = (
+  omega arith,
+  stripes-pass _ _ _ _ (c .before .before .before .before .before .loop .inv .1) (omega arith) (omega arith) _
+      (c .before .before .before .place .ensures) (c .before .before .if1 .left) (sym (c .before .stripes-differ .ensures) ∙ not-false _ (c .if2 .left)),
+)
 
 returns-3 : tie.Need-returns-3 Inv-loop μ-loop
 returns-3 c = stripes-end _ _ _ _ (c .before .loop .inv .1) (omega arith)

@@ -15,7 +15,9 @@ use Rattle.fitting.proofs.tx.stripes_differ.Statement.{statement}
 use Rattle.fitting.proofs.tx.stripes_differ.Tie as tie
 
 abbrev Inv-loop : tie.InvT-loop
-Inv-loop n i reads stripe j₀ j = (j ≤ n) × (firstLeft (stripesDiffer (getD reads i noIndexRead)) n indexReadLimit noIndexRead reads j ≡ all (stripesDiffer (getD reads i noIndexRead)) (drop (i + 1) (take n (array indexReadLimit noIndexRead reads))))
+Inv-loop n i reads stripe j₀ j =
+    (j ≤ n) × (firstLeft (stripesDiffer (getD reads i noIndexRead)) n indexReadLimit noIndexRead reads j
+    ≡ all (stripesDiffer (getD reads i noIndexRead)) (drop (i + 1) (take n (array indexReadLimit noIndexRead reads))))
 
 abbrev μ-loop : tie.MeasureT-loop
 μ-loop n i reads stripe j₀ j = n - j

@@ -20,10 +20,18 @@ returns-5 : tie.Need-returns-5
 returns-5 c = write-seen _ _ _ _ _ _ (c .before .before .before .before .before .place2 .ensures) (c .before .before .before .before .if3 .left) (c .if5 .taken)
 
 returns-6 : tie.Need-returns-6
-returns-6 c = write-other _ _ _ _ _ _ (c .before .before .before .before .before .before .place2 .ensures) (c .before .before .before .before .before .if3 .left) (c .if6 .taken)
+returns-6 c =
+    write-other _ _ _ _ _ _ (c .before .before .before .before .before .before .place2 .ensures)
+    (c .before .before .before .before .before .if3 .left) (c .if6 .taken)
 
 returns-7 : tie.Need-returns-7
-returns-7 c = write-last _ _ _ _ _ _ (c .before .before .before .before .before .before .before .before .place2 .ensures) (c .before .before .before .before .before .before .before .if3 .left) _ (c .before .before .before .before .before .before .before .before .before .before .place .ensures) (c .before .before .before .before .before .before .before .before .before .before .before .if1 .left) (c .before .before .before .before .before .before .before .before .before .if2 .left) (c .before .before .before .before .before .if4 .left) (c .before .before .before .if5 .left) (c .before .before .if6 .left)
+returns-7 c =
+    write-last _ _ _ _ _ _ (c .before .before .before .before .before .before .before .before .place2 .ensures)
+    (c .before .before .before .before .before .before .before .if3 .left) _
+    (c .before .before .before .before .before .before .before .before .before .before .place .ensures)
+    (c .before .before .before .before .before .before .before .before .before .before .before .if1 .left)
+    (c .before .before .before .before .before .before .before .before .before .if2 .left)
+    (c .before .before .before .before .before .if4 .left) (c .before .before .before .if5 .left) (c .before .before .if6 .left)
 
 pub write-fit-spec : {M : Type 1} → statement M
 write-fit-spec =

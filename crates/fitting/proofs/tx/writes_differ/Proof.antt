@@ -15,7 +15,9 @@ use Rattle.fitting.proofs.tx.writes_differ.Statement.{statement}
 use Rattle.fitting.proofs.tx.writes_differ.Tie as tie
 
 abbrev Inv-loop : tie.InvT-loop
-Inv-loop n i writes w j₀ j = (j ≤ n) × (firstLeft (writesDiffer (getD writes i noWrite)) n writeLimit noWrite writes j ≡ all (writesDiffer (getD writes i noWrite)) (drop (i + 1) (take n (array writeLimit noWrite writes))))
+Inv-loop n i writes w j₀ j =
+    (j ≤ n) × (firstLeft (writesDiffer (getD writes i noWrite)) n writeLimit noWrite writes j
+    ≡ all (writesDiffer (getD writes i noWrite)) (drop (i + 1) (take n (array writeLimit noWrite writes))))
 
 abbrev μ-loop : tie.MeasureT-loop
 μ-loop n i writes w j₀ j = n - j
@@ -28,14 +30,18 @@ returns : tie.Need-returns Inv-loop μ-loop
 returns c = first-fail _ _ _ _ _ _ _ (c .before .before .before .before .before .loop .inv .1) (omega arith) (omega arith) (same-new _ _ (c .if1 .taken))
 
 returns-2 : tie.Need-returns-2 Inv-loop μ-loop
-returns-2 c = first-fail _ _ _ _ _ _ _ (c .before .before .before .before .before .before .before .before .before .before .before .loop .inv .1) (omega arith) (omega arith) (other-base _ _ (c .before .before .before .if2 .taken) (c .if3 .taken))
+returns-2 c =
+    first-fail _ _ _ _ _ _ _ (c .before .before .before .before .before .before .before .before .before .before .before .loop .inv .1)
+    (omega arith) (omega arith) (other-base _ _ (c .before .before .before .if2 .taken) (c .if3 .taken))
 
 loop-again : tie.Need-loop-again Inv-loop μ-loop
 loop-again c = (
   omega arith,
   ⊎-elim
-      (λ v. first-pass _ _ _ _ _ _ _ (c .before .before .before .before .before .before .before .before .loop .inv .1) (omega arith) (omega arith) (same-base _ _ (c .before .before .before .if1 .left) (v .3 .left)))
-      (λ v. first-pass _ _ _ _ _ _ _ (c .before .before .before .before .before .before .before .before .loop .inv .1) (omega arith) (omega arith) (other-row _ _ (c .before .before .before .if1 .left) (v .left)))
+      (λ v. first-pass _ _ _ _ _ _ _ (c .before .before .before .before .before .before .before .before .loop .inv .1) (omega arith) (omega arith)
+      (same-base _ _ (c .before .before .before .if1 .left) (v .3 .left)))
+      (λ v. first-pass _ _ _ _ _ _ _ (c .before .before .before .before .before .before .before .before .loop .inv .1) (omega arith) (omega arith)
+      (other-row _ _ (c .before .before .before .if1 .left) (v .left)))
       (c .if2 .came),
 )
 

@@ -15,7 +15,8 @@ use Rattle.fitting.proofs.tx.writes_fit.Statement.{statement}
 use Rattle.fitting.proofs.tx.writes_fit.Tie as tie
 
 abbrev Inv-loop : tie.InvT-loop
-Inv-loop xmin next seen t n writes i₀ i = (i ≤ n) × (firstLeft (writeAt xmin next seen t) n writeLimit noWrite writes i ≡ all (writeAt xmin next seen t) (take n (array writeLimit noWrite writes)))
+Inv-loop xmin next seen t n writes i₀ i =
+    (i ≤ n) × (firstLeft (writeAt xmin next seen t) n writeLimit noWrite writes i ≡ all (writeAt xmin next seen t) (take n (array writeLimit noWrite writes)))
 
 abbrev μ-loop : tie.MeasureT-loop
 μ-loop xmin next seen t n writes i₀ i = n - i
@@ -25,10 +26,16 @@ unfolding firstLeft
 loop-holds c = search needs
 
 returns : tie.Need-returns Inv-loop μ-loop
-returns c = first-fail _ _ _ _ _ _ _ (c .before .before .before .before .loop .inv .1) (omega arith) (omega arith) (sym (c .before .write-fit .ensures) ∙ not-true _ (c .if1 .taken))
+returns c =
+    first-fail _ _ _ _ _ _ _ (c .before .before .before .before .loop .inv .1) (omega arith) (omega arith)
+    (sym (c .before .write-fit .ensures) ∙ not-true _ (c .if1 .taken))
 
 loop-again : tie.Need-loop-again Inv-loop μ-loop
-loop-again c = (omega arith, first-pass _ _ _ _ _ _ _ (c .before .before .before .before .loop .inv .1) (omega arith) (omega arith) (sym (c .before .write-fit .ensures) ∙ not-false _ (c .if1 .left)))
+loop-again c = (
+  omega arith,
+  first-pass _ _ _ _ _ _ _ (c .before .before .before .before .loop .inv .1) (omega arith) (omega arith)
+      (sym (c .before .write-fit .ensures) ∙ not-false _ (c .if1 .left)),
+)
 
 returns-2 : tie.Need-returns-2 Inv-loop μ-loop
 returns-2 c = first-none _ _ _ _ _ _ _ (c .before .loop .inv .1) (omega arith)

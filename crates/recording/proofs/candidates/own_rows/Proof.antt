@@ -15,7 +15,9 @@ use Rattle.recording.proofs.candidates.own_rows.Statement.{statement}
 use Rattle.recording.proofs.candidates.own_rows.Tie as tie
 
 abbrev Inv-loop : tie.InvT-loop
-Inv-loop x q₀ n i₀ q i = (i ≤ n) × (n ≡ min (x .«write_count») writeLimit) × (length q ≡ rows) × (markAll (ownRows (firstFrom (x .«write_count») (x .writes) i)) q ≡ markAll (ownRows (writesOf x)) q₀)
+Inv-loop x q₀ n i₀ q i =
+    (i ≤ n) × (n ≡ min (x .«write_count») writeLimit) × (length q ≡ rows)
+    × (markAll (ownRows (firstFrom (x .«write_count») (x .writes) i)) q ≡ markAll (ownRows (writesOf x)) q₀)
 
 abbrev μ-loop : tie.MeasureT-loop
 μ-loop x q₀ n i₀ q i = n - i
@@ -31,8 +33,12 @@ loop-again c =
 
 loop-again-2 : tie.Need-loop-again-2 Inv-loop μ-loop
 loop-again-2 c =
-    let long = writes-long (c .before .before .before .before .before .args .t1) (c .before .before .before .before .before .good .0) in
-    (omega arith, omega arith, omega arith, sym (own-high _ _ _ _ (first-next _ _ _ noWrite (omega arith)) (omega arith)) ∙ c .before .before .before .loop .inv .3)
+    let long = writes-long (c .before .before .before .before .before .args .t1) (c .before .before .before .before .before .good .0) in (
+      omega arith,
+      omega arith,
+      omega arith,
+      sym (own-high _ _ _ _ (first-next _ _ _ noWrite (omega arith)) (omega arith)) ∙ c .before .before .before .loop .inv .3,
+    )
 
 returns : tie.Need-returns Inv-loop μ-loop
 returns c =

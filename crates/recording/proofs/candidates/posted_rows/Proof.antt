@@ -13,7 +13,9 @@ use Rattle.recording.proofs.candidates.posted_rows.Statement.{statement
 use Rattle.recording.proofs.candidates.posted_rows.Tie as tie
 
 abbrev Inv-loop : tie.InvT-loop
-Inv-loop postings count k m₀ n key i₀ m i = (i ≤ n) × (n ≡ min count postingLimit) × (markAll (rowsOfKey k (firstFrom count (atPostings postings) i)) m ≡ markAll (postedRows (atPostings postings) count k) noRows)
+Inv-loop postings count k m₀ n key i₀ m i =
+    (i ≤ n) × (n ≡ min count postingLimit)
+    × (markAll (rowsOfKey k (firstFrom count (atPostings postings) i)) m ≡ markAll (postedRows (atPostings postings) count k) noRows)
 
 abbrev μ-loop : tie.MeasureT-loop
 μ-loop postings count k m₀ n key i₀ m i = n - i
@@ -23,14 +25,23 @@ unfolding firstFrom noRows
 loop-holds c = (omega arith, c .clipped .ensures, refl)
 
 loop-again : tie.Need-loop-again Inv-loop μ-loop
-loop-again c = (omega arith, omega arith, sym (posting-of _ _ _ _ _ (lent-next postingLimit _ 0 _ _ (omega arith)) (c .if1 .taken)) ∙ c .before .before .before .loop .inv .2)
+loop-again c = (
+  omega arith,
+  omega arith,
+  sym (posting-of _ _ _ _ _ (lent-next postingLimit _ 0 _ _ (omega arith)) (c .if1 .taken)) ∙ c .before .before .before .loop .inv .2,
+)
 
 loop-again-2 : tie.Need-loop-again-2 Inv-loop μ-loop
-loop-again-2 c = (omega arith, omega arith, sym (posting-not _ _ _ _ _ (lent-next postingLimit _ 0 _ _ (omega arith)) (c .if1 .left)) ∙ c .before .before .before .loop .inv .2)
+loop-again-2 c = (
+  omega arith,
+  omega arith,
+  sym (posting-not _ _ _ _ _ (lent-next postingLimit _ 0 _ _ (omega arith)) (c .if1 .left)) ∙ c .before .before .before .loop .inv .2,
+)
 
 returns : tie.Need-returns Inv-loop μ-loop
 returns c =
-    let none = lent-end postingLimit (c .before .before .before .args .count) 0 (c .before .before .before .args .postings .now) (c .before .loop .i) (omega arith) in
+    let none = lent-end postingLimit (c .before .before .before .args .count) 0 (c .before .before .before .args .postings .now)
+    (c .before .loop .i) (omega arith) in
     rw none at (c .before .loop .inv .2)
 
 pub posted-rows-spec : {M : Type 1} → statement M

@@ -32,8 +32,10 @@ returns c =
     let e : c .before .before .loop .i ≡ c .before .before .before .clipped .result = omega arith in
     let held = rw e at (c .before .before .loop .inv .2) in
     let long = writes-long x (c .before .before .before .before .good .0) in
-    let at = more-over writeLimit (x .«write_count») _ noWrite (c .before .before .before .before .args .w) (x .writes) _ long (c .before .before .before .clipped .ensures) held (omega arith) in
-    let count = more-count writeLimit (x .«write_count») _ noWrite (c .before .before .before .before .args .w) (x .writes) _ long (c .before .before .before .clipped .ensures) held in
+    let at = more-over writeLimit (x .«write_count») _ noWrite (c .before .before .before .before .args .w) (x .writes) _ long
+    (c .before .before .before .clipped .ensures) held (omega arith) in
+    let count = more-count writeLimit (x .«write_count») _ noWrite (c .before .before .before .before .args .w) (x .writes) _ long
+    (c .before .before .before .clipped .ensures) held in
     rw (at, count)
 
 returns-2 : tie.Need-returns-2 Inv-loop μ-loop
@@ -42,8 +44,10 @@ returns-2 c =
     let e : c .before .before .loop .i ≡ c .before .before .before .clipped .result = omega arith in
     let held = rw e at (c .before .before .loop .inv .2) in
     let long = writes-long x (c .before .before .before .before .good .0) in
-    let at = more-room writeLimit (x .«write_count») _ noWrite (c .before .before .before .before .args .w) (x .writes) _ long (c .before .before .before .clipped .ensures) held (omega arith) in
-    let count = more-count writeLimit (x .«write_count») _ noWrite (c .before .before .before .before .args .w) (x .writes) _ long (c .before .before .before .clipped .ensures) held in
+    let at = more-room writeLimit (x .«write_count») _ noWrite (c .before .before .before .before .args .w) (x .writes) _ long
+    (c .before .before .before .clipped .ensures) held (omega arith) in
+    let count = more-count writeLimit (x .«write_count») _ noWrite (c .before .before .before .before .args .w) (x .writes) _ long
+    (c .before .before .before .clipped .ensures) held in
     rw (at, count)
 
 pub with-write-spec : {M : Type 1} → statement M

@@ -38,7 +38,8 @@ loop-again-2 c =
 
 loop-again-3 : tie.Need-loop-again-3 Inv-loop μ-loop
 loop-again-3 c =
-    let no = marked-no (c .before .before .before .before .args .marks .now) (c .before .before .before .loop .r) (c .before .before .loop-test .taken) (c .if1 .left) in
+    let no = marked-no (c .before .before .before .before .args .marks .now) (c .before .before .before .loop .r)
+    (c .before .before .loop-test .taken) (c .if1 .left) in
     (omega arith, not-found _ _ _ _ _ (c .before .before .before .loop .inv .1) _ (rw no))
 
 returns : tie.Need-returns Inv-loop μ-loop

@@ -15,7 +15,8 @@ use Rattle.recording.proofs.reads.has_read.Statement.{statement}
 use Rattle.recording.proofs.reads.has_read.Tie as tie
 
 abbrev Inv-loop : tie.InvT-loop
-Inv-loop p l n i₀ i = (i ≤ n) × (n ≡ min (l .count) readLimit) × (any (ofPtr (p .0)) (firstFrom (l .count) (l .at) i) ≡ any (ofPtr (p .0)) (take (l .count) (l .at)))
+Inv-loop p l n i₀ i =
+    (i ≤ n) × (n ≡ min (l .count) readLimit) × (any (ofPtr (p .0)) (firstFrom (l .count) (l .at) i) ≡ any (ofPtr (p .0)) (take (l .count) (l .at)))
 
 abbrev μ-loop : tie.MeasureT-loop
 μ-loop p l n i₀ i = n - i
@@ -28,13 +29,18 @@ returns : tie.Need-returns Inv-loop μ-loop
 returns c =
     let turn = c .before .before .before .before in
     let long = list-long (turn .before .before .before .args .t1) (turn .before .before .before .good .0) in
-    sym (any-first (ofPtr (turn .before .before .before .args .p .0)) _ _ _ (first-next _ _ _ noRead (omega arith)) (eq-eqb _ _ (c .if1 .taken))) ∙ turn .before .loop .inv .2
+    sym (any-first (ofPtr (turn .before .before .before .args .p .0)) _ _ _ (first-next _ _ _ noRead (omega arith)) (eq-eqb _ _ (c .if1 .taken)))
+    ∙ turn .before .loop .inv .2
 
 loop-again : tie.Need-loop-again Inv-loop μ-loop
 loop-again c =
     let turn = c .before .before .before .before in
-    let long = list-long (turn .before .before .before .args .t1) (turn .before .before .before .good .0) in
-    (omega arith, omega arith, sym (any-rest (ofPtr (turn .before .before .before .args .p .0)) _ _ _ (first-next _ _ _ noRead (omega arith)) (ne-eqb _ _ (c .if1 .left))) ∙ turn .before .loop .inv .2)
+    let long = list-long (turn .before .before .before .args .t1) (turn .before .before .before .good .0) in (
+      omega arith,
+      omega arith,
+      sym (any-rest (ofPtr (turn .before .before .before .args .p .0)) _ _ _ (first-next _ _ _ noRead (omega arith)) (ne-eqb _ _ (c .if1 .left)))
+          ∙ turn .before .loop .inv .2,
+    )
 
 returns-2 : tie.Need-returns-2 Inv-loop μ-loop
 returns-2 c =

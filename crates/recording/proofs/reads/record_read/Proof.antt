@@ -21,7 +21,8 @@ returns-3 c =
     λ m holds.
     let v = c .before .before .before .before .before .before in
     let once = record-once _ _ _ _ _ m _ _ (v .recorded .ensures) (c .before .before .before .before .if1 .left) (c .before .txid-at .ensures) in
-    c .push-read .ensures m holds ∙ (read-new _ m _ _ _ holds (c .before .before .before .has-read .ensures) (c .before .before .if2 .left) _ refl ∙ ap laid (sym once))
+    c .push-read .ensures m holds
+    ∙ (read-new _ m _ _ _ holds (c .before .before .before .has-read .ensures) (c .before .before .if2 .left) _ refl ∙ ap laid (sym once))
 
 pub record-read-spec : {M : Type 1} → statement M
 record-read-spec =

@@ -15,7 +15,9 @@ use Rattle.recording.proofs.stamps.has_stripe.Statement.{statement}
 use Rattle.recording.proofs.stamps.has_stripe.Tie as tie
 
 abbrev Inv-loop : tie.InvT-loop
-Inv-loop stripe x n i₀ i = (i ≤ n) × (n ≡ min (x .«index_read_count») indexReadLimit) × (any (ofStripe stripe) (firstFrom (x .«index_read_count») (x .«index_reads») i) ≡ any (ofStripe stripe) (indexReadsOf x))
+Inv-loop stripe x n i₀ i =
+    (i ≤ n) × (n ≡ min (x .«index_read_count») indexReadLimit)
+    × (any (ofStripe stripe) (firstFrom (x .«index_read_count») (x .«index_reads») i) ≡ any (ofStripe stripe) (indexReadsOf x))
 
 abbrev μ-loop : tie.MeasureT-loop
 μ-loop stripe x n i₀ i = n - i
@@ -28,13 +30,18 @@ returns : tie.Need-returns Inv-loop μ-loop
 returns c =
     let turn = c .before .before .before in
     let long = index-reads-long (turn .before .before .before .args .t1) (turn .before .before .before .good .0) in
-    sym (any-first (ofStripe (turn .before .before .before .args .stripe)) _ _ _ (first-next _ _ _ noIndexRead (omega arith)) (eq-eqb _ _ (c .if1 .taken))) ∙ turn .before .loop .inv .2
+    sym (any-first (ofStripe (turn .before .before .before .args .stripe)) _ _ _ (first-next _ _ _ noIndexRead (omega arith)) (eq-eqb _ _ (c .if1 .taken)))
+    ∙ turn .before .loop .inv .2
 
 loop-again : tie.Need-loop-again Inv-loop μ-loop
 loop-again c =
     let turn = c .before .before .before in
-    let long = index-reads-long (turn .before .before .before .args .t1) (turn .before .before .before .good .0) in
-    (omega arith, omega arith, sym (any-rest (ofStripe (turn .before .before .before .args .stripe)) _ _ _ (first-next _ _ _ noIndexRead (omega arith)) (ne-eqb _ _ (c .if1 .left))) ∙ turn .before .loop .inv .2)
+    let long = index-reads-long (turn .before .before .before .args .t1) (turn .before .before .before .good .0) in (
+      omega arith,
+      omega arith,
+      sym (any-rest (ofStripe (turn .before .before .before .args .stripe)) _ _ _ (first-next _ _ _ noIndexRead (omega arith)) (ne-eqb _ _ (c .if1 .left)))
+          ∙ turn .before .loop .inv .2,
+    )
 
 returns-2 : tie.Need-returns-2 Inv-loop μ-loop
 returns-2 c =

@@ -14,7 +14,8 @@ use Rattle.recording.proofs.stamps.index_reads_of.Statement.{statement}
 use Rattle.recording.proofs.stamps.index_reads_of.Tie as tie
 
 abbrev Inv-loop : tie.InvT-loop
-Inv-loop x at₀ count i₀ at i = (i ≤ count) × (count ≡ min (x .«index_read_count») indexReadLimit) × (at ≡ pad indexReadLimit noIndexRead (take i (x .«index_reads»)))
+Inv-loop x at₀ count i₀ at i =
+    (i ≤ count) × (count ≡ min (x .«index_read_count») indexReadLimit) × (at ≡ pad indexReadLimit noIndexRead (take i (x .«index_reads»)))
 
 abbrev μ-loop : tie.MeasureT-loop
 μ-loop x at₀ count i₀ at i = count - i

@@ -12,13 +12,17 @@ returns c = stamp-before _ _ _ _ _ (c .before .before .index-reads-of .ensures) 
 add-l : tie.Need-add-l
 add-l c =
     let x = c .before .before .before .args .x in
-    let few = list-short _ (x .«index_reads») (x .«index_read_count») (index-reads-long x (c .before .before .before .good .0)) (c .before .before .index-reads-of .ensures) in omega arith
+    let few = list-short _ (x .«index_reads») (x .«index_read_count») (index-reads-long x (c .before .before .before .good .0))
+    (c .before .before .index-reads-of .ensures) in
+    omega arith
 
 returns-2 : tie.Need-returns-2
-returns-2 c = stamp-room _ _ _ _ _ (c .before .before .before .index-reads-of .ensures) (c .before .before .has-stripe .ensures) (c .before .if1 .left) (c .if2 .taken)
+returns-2 c =
+    stamp-room _ _ _ _ _ (c .before .before .before .index-reads-of .ensures) (c .before .before .has-stripe .ensures) (c .before .if1 .left) (c .if2 .taken)
 
 returns-3 : tie.Need-returns-3
-returns-3 c = stamp-over _ _ _ _ _ (c .before .before .before .index-reads-of .ensures) (c .before .before .has-stripe .ensures) (c .before .if1 .left) (c .if2 .left)
+returns-3 c =
+    stamp-over _ _ _ _ _ (c .before .before .before .index-reads-of .ensures) (c .before .before .has-stripe .ensures) (c .before .if1 .left) (c .if2 .left)
 
 pub record-stamp-spec : {M : Type 1} → statement M
 record-stamp-spec =

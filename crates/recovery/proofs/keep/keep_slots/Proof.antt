@@ -12,13 +12,16 @@ use Rattle.recovery.proofs.keep.keep_slots.Tie as tie
 
 abbrev Inv-loop : tie.InvT-loop
 Inv-loop xmin₀ xmax₀ next₀ key₀ has₀ seen i₀ xmin xmax next key has i =
-    (i ≤ places) × (Kept 0 seen xmin₀ xmin i) × (Kept 0 seen xmax₀ xmax i) × (Kept 0 seen next₀ next i) × (Kept 0 seen key₀ key i) × (Kept false seen has₀ has i)
+    (i ≤ places) × (Kept 0 seen xmin₀ xmin i) × (Kept 0 seen xmax₀ xmax i) × (Kept 0 seen next₀ next i) × (Kept 0 seen key₀ key i)
+    × (Kept false seen has₀ has i)
 
 abbrev μ-loop : tie.MeasureT-loop
 μ-loop xmin₀ xmax₀ next₀ key₀ has₀ seen i₀ xmin xmax next key has i = places - i
 
 loop-holds : tie.Need-loop-holds Inv-loop μ-loop
-loop-holds c = let p = c .before .before .before .before .before .before .pre in (omega arith, kept-start (p .0), kept-start (p .1 .0), kept-start (p .1 .1 .0), kept-start (p .1 .1 .1 .0), kept-start (p .1 .1 .1 .1))
+loop-holds c =
+    let p = c .before .before .before .before .before .before .pre in
+    (omega arith, kept-start (p .0), kept-start (p .1 .0), kept-start (p .1 .1 .0), kept-start (p .1 .1 .1 .0), kept-start (p .1 .1 .1 .1))
 
 loop-again : tie.Need-loop-again Inv-loop μ-loop
 loop-again c =

@@ -19,13 +19,29 @@ loop-holds : tie.Need-loop-holds Inv-loop μ-loop
 loop-holds c = let s = c .before .before .before .args in (omega arith, rebuild-start (s .key .now) (s .has .now) (s .heads .now))
 
 loop-again : tie.Need-loop-again Inv-loop μ-loop
-loop-again c = let s = c .before .before .before .before .before .before .before .before .before .before .before .before .args in let a = c .before .before .before .before .before .before .before .before in (omega arith, rebuild-put (s .key .now) (s .has .now) (s .heads .now) (a .loop .x) (a .loop .n) (a .loop .r) (c .before .before .before .before .before .place .result) (omega arith) (omega arith) (c .before .before .before .before .before .place .ensures) (a .loop .inv .1) (c .before .before .word-at .result) (sym (c .before .before .before .before .flag-at .ensures) ∙ c .before .before .before .if1 .taken) (c .before .before .word-at .ensures) (c .insert .ensures))
+loop-again c =
+    let s = c .before .before .before .before .before .before .before .before .before .before .before .before .args in
+    let a = c .before .before .before .before .before .before .before .before in (
+      omega arith,
+      rebuild-put (s .key .now) (s .has .now) (s .heads .now) (a .loop .x) (a .loop .n) (a .loop .r) (c .before .before .before .before .before .place .result)
+          (omega arith) (omega arith) (c .before .before .before .before .before .place .ensures) (a .loop .inv .1)
+          (c .before .before .word-at .result) (sym (c .before .before .before .before .flag-at .ensures) ∙ c .before .before .before .if1 .taken)
+          (c .before .before .word-at .ensures) (c .insert .ensures),
+    )
 
 loop-again-2 : tie.Need-loop-again-2 Inv-loop μ-loop
-loop-again-2 c = let s = c .before .before .before .before .before .before .before .before .before .args in let a = c .before .before .before .before .before in (omega arith, rebuild-none (s .key .now) (s .has .now) (s .heads .now) (a .loop .x) (a .loop .n) (a .loop .r) (c .before .before .place .result) (omega arith) (omega arith) (c .before .before .place .ensures) (a .loop .inv .1) (sym (c .before .flag-at .ensures) ∙ c .if1 .left))
+loop-again-2 c =
+    let s = c .before .before .before .before .before .before .before .before .before .args in
+    let a = c .before .before .before .before .before in (
+      omega arith,
+      rebuild-none (s .key .now) (s .has .now) (s .heads .now) (a .loop .x) (a .loop .n) (a .loop .r) (c .before .before .place .result)
+          (omega arith) (omega arith) (c .before .before .place .ensures) (a .loop .inv .1) (sym (c .before .flag-at .ensures) ∙ c .if1 .left),
+    )
 
 returns : tie.Need-returns Inv-loop μ-loop
-returns c = let s = c .before .before .before .before .before .args in rebuild-end (s .key .now) (s .has .now) (s .heads .now) (c .before .loop .r) (omega arith) (c .before .loop .inv .1)
+returns c =
+    let s = c .before .before .before .before .before .args in
+    rebuild-end (s .key .now) (s .has .now) (s .heads .now) (c .before .loop .r) (omega arith) (c .before .loop .inv .1)
 
 pub rebuild-spec : {M : Type 1} → statement M
 rebuild-spec =

@@ -12,7 +12,8 @@ use Rattle.recovery.proofs.trim.trim_heads.Statement.{statement}
 use Rattle.recovery.proofs.trim.trim_heads.Tie as tie
 
 abbrev Inv-loop : tie.InvT-loop
-Inv-loop heads₀ xmin next active doomed r₀ heads r = (length heads ≡ length heads₀) × (mapLeft (trimHead (finished active doomed) xmin next) heads r ≡ map (trimHead (finished active doomed) xmin next) heads₀)
+Inv-loop heads₀ xmin next active doomed r₀ heads r =
+    (length heads ≡ length heads₀) × (mapLeft (trimHead (finished active doomed) xmin next) heads r ≡ map (trimHead (finished active doomed) xmin next) heads₀)
 
 abbrev μ-loop : tie.MeasureT-loop
 μ-loop heads₀ xmin next active doomed r₀ heads r = length heads - r
@@ -24,7 +25,9 @@ loop-less : tie.Need-loop-less Inv-loop μ-loop
 loop-less c = simp length-set (omega arith)
 
 loop-again : tie.Need-loop-again Inv-loop μ-loop
-loop-again c = let a = c .before .before .before in (simp length-set (a .loop .inv .0), map-turn _ _ _ _ (c .before .before .loop-test .taken) (c .trimmed .ensures) ∙ a .loop .inv .1)
+loop-again c =
+    let a = c .before .before .before in
+    (simp length-set (a .loop .inv .0), map-turn _ _ _ _ (c .before .before .loop-test .taken) (c .trimmed .ensures) ∙ a .loop .inv .1)
 
 same-length : tie.Need-same-length Inv-loop μ-loop
 same-length c = c .before .loop .inv .0

@@ -36,13 +36,33 @@ loop-holds : tie.Need-loop-holds Inv-loop μ-loop
 loop-holds c = (omega arith, length-replicate {A = ℕ} 16384 0)
 
 add-at : tie.Need-add-at Inv-loop μ-loop
-add-at c = omega (arith, within (c .before .before .before .before .before .before .before .before .before .args .part .now) (c .before .before .before .before .before .before .before .loop .at) (c .before .before .before .feed .ensures))
+add-at c = omega (
+  arith,
+  within (c .before .before .before .before .before .before .before .before .before .args .part .now)
+      (c .before .before .before .before .before .before .before .loop .at) (c .before .before .before .feed .ensures),
+)
 
 loop-less : tie.Need-loop-less Inv-loop μ-loop
-loop-less c = omega (arith, some (c .before .before .before .before .before .before .before .before .before .before .before .before .args .part .now) (c .before .before .before .before .before .before .before .before .before .before .loop .at) (c .before .before .before .before .before .before .feed .ensures) (omega arith) (omega arith), within (c .before .before .before .before .before .before .before .before .before .before .before .before .args .part .now) (c .before .before .before .before .before .before .before .before .before .before .loop .at) (c .before .before .before .before .before .before .feed .ensures))
+loop-less c = omega (
+  arith,
+  some (c .before .before .before .before .before .before .before .before .before .before .before .before .args .part .now)
+      (c .before .before .before .before .before .before .before .before .before .before .loop .at)
+      (c .before .before .before .before .before .before .feed .ensures) (omega arith) (omega arith),
+  within (c .before .before .before .before .before .before .before .before .before .before .before .before .args .part .now)
+      (c .before .before .before .before .before .before .before .before .before .before .loop .at)
+      (c .before .before .before .before .before .before .feed .ensures),
+)
 
 loop-again : tie.Need-loop-again Inv-loop μ-loop
-loop-again c = (omega (arith, within (c .before .before .before .before .before .before .before .before .before .before .before .before .args .part .now) (c .before .before .before .before .before .before .before .before .before .before .loop .at) (c .before .before .before .before .before .before .feed .ensures)), search needs)
+loop-again c = (
+  omega (
+    arith,
+    within (c .before .before .before .before .before .before .before .before .before .before .before .before .args .part .now)
+        (c .before .before .before .before .before .before .before .before .before .before .loop .at)
+        (c .before .before .before .before .before .before .feed .ensures),
+  ),
+  search needs,
+)
 
 pub replay-part-spec : {M : Type 1} → statement M
 replay-part-spec =

@@ -13,7 +13,8 @@ use Rattle.replay_core.proofs.answer.put_text.Tie as tie
 
 abbrev Inv-loop : tie.InvT-loop
 Inv-loop out₀ n text at₀ i₀ out at i =
-    (text .start ≤ i) × (i ≤ answerRoom) × (at + text .start ≡ n + i) × (length out ≡ length out₀) × (take at out ++ drop i (text .bytes) ≡ take n out₀ ++ drop (text .start) (text .bytes))
+    (text .start ≤ i) × (i ≤ answerRoom) × (at + text .start ≡ n + i) × (length out ≡ length out₀)
+    × (take at out ++ drop i (text .bytes) ≡ take n out₀ ++ drop (text .start) (text .bytes))
     × (drop at out ≡ drop at out₀)
 
 abbrev μ-loop : tie.MeasureT-loop
@@ -26,8 +27,14 @@ loop-again : tie.Need-loop-again Inv-loop μ-loop
 loop-again c =
     let l = c .before .before in
     let t = l .before .args .t3 in
-    let long = text-long t (l .before .good .1 .1 .0) in
-    (omega arith, omega arith, omega arith, simp length-set (l .loop .inv .3), put-more (l .loop .out) (t .bytes) _ (l .loop .at) (l .loop .i) (l .loop .inv .4) (omega arith) (omega arith), alike-more (l .loop .out) _ (l .loop .at) _ (l .loop .inv .5))
+    let long = text-long t (l .before .good .1 .1 .0) in (
+      omega arith,
+      omega arith,
+      omega arith,
+      simp length-set (l .loop .inv .3),
+      put-more (l .loop .out) (t .bytes) _ (l .loop .at) (l .loop .i) (l .loop .inv .4) (omega arith) (omega arith),
+      alike-more (l .loop .out) _ (l .loop .at) _ (l .loop .inv .5),
+    )
 
 returns : tie.Need-returns Inv-loop μ-loop
 returns c =

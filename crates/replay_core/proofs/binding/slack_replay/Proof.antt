@@ -6,7 +6,9 @@ use Rattle.replay_core.proofs.binding.slack_replay.Statement.{statement
 use Rattle.replay_core.proofs.binding.slack_replay.Tie as tie
 
 returns : tie.Need-returns
-returns c = let a = c .before .before .before .before in into-short (a .args .script .now) (a .args .out .now) (omega (arith, c .before .line-feeds .ensures, c .if1 .taken))
+returns c =
+    let a = c .before .before .before .before in
+    into-short (a .args .script .now) (a .args .out .now) (omega (arith, c .before .line-feeds .ensures, c .if1 .taken))
 
 returns-2 : tie.Need-returns-2
 returns-2 c =

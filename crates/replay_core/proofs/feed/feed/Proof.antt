@@ -23,42 +23,98 @@ abbrev μ-loop : tie.MeasureT-loop
 μ-loop part out₀ store₀ txs₀ plan₀ held₀ lines₀ n₀ i₀ out store txs plan held lines n i = length part - i
 
 loop-holds : tie.Need-loop-holds Inv-loop μ-loop
-loop-holds c = (omega arith, omega arith, refl, txs-long (c .before .before .before .before .before .before .args .r) (c .before .before .before .before .before .before .good .0), goes-none _ _ _)
+loop-holds c = (
+  omega arith,
+  omega arith,
+  refl,
+  txs-long (c .before .before .before .before .before .before .args .r) (c .before .before .before .before .before .before .good .0),
+  goes-none _ _ _,
+)
 
 mul-turn : tie.Need-mul-turn Inv-loop μ-loop
-mul-turn c = let low = place-in-below (heldIn (c .before .before .before .before .before .before .loop .held)) (c .before .line-in .ensures) (c .place-of .ensures) in search needs
+mul-turn c =
+    let low = place-in-below (heldIn (c .before .before .before .before .before .before .loop .held)) (c .before .line-in .ensures) (c .place-of .ensures) in
+    search needs
 
 array-copy-out-turn : tie.Need-array-copy-out-turn Inv-loop μ-loop
-array-copy-out-turn c = place-in-below (heldIn (c .before .before .before .before .before .before .loop .held)) (c .before .line-in .ensures) (c .place-of .ensures)
+array-copy-out-turn c =
+    place-in-below (heldIn (c .before .before .before .before .before .before .loop .held)) (c .before .line-in .ensures) (c .place-of .ensures)
 
 mul-txs : tie.Need-mul-txs Inv-loop μ-loop
-mul-txs c = let low = place-in-below (heldIn (c .before .before .before .before .before .before .before .before .before .before .loop .held)) (c .before .before .before .before .before .line-in .ensures) (c .before .before .before .before .place-of .ensures) in search needs
+mul-txs c =
+    let low = place-in-below (heldIn (c .before .before .before .before .before .before .before .before .before .before .loop .held))
+    (c .before .before .before .before .before .line-in .ensures) (c .before .before .before .before .place-of .ensures) in
+    search needs
 
 array-set-from-txs : tie.Need-array-set-from-txs Inv-loop μ-loop
-array-set-from-txs c = place-in-below (heldIn (c .before .before .before .before .before .before .before .before .before .before .loop .held)) (c .before .before .before .before .before .line-in .ensures) (c .before .before .before .before .place-of .ensures)
+array-set-from-txs c =
+    place-in-below (heldIn (c .before .before .before .before .before .before .before .before .before .before .loop .held))
+    (c .before .before .before .before .before .line-in .ensures) (c .before .before .before .before .place-of .ensures)
 
 put-answer-requires : tie.Need-put-answer-requires Inv-loop μ-loop
-put-answer-requires c κs = omega (arith, c .before .before .before .before .before .before .before .before .before .before .before .if1 .left, c .before .before .before .before .before .before .before .before .before .before .before .before .before .loop .inv .1, c .before .before .before .before .before .before .before .before .before .before .before .before .before .loop .inv .2)
+put-answer-requires c κs = omega (
+  arith,
+  c .before .before .before .before .before .before .before .before .before .before .before .if1 .left,
+  c .before .before .before .before .before .before .before .before .before .before .before .before .before .loop .inv .1,
+  c .before .before .before .before .before .before .before .before .before .before .before .before .before .loop .inv .2,
+)
 
 loop-again : tie.Need-loop-again Inv-loop μ-loop
 loop-again c =
     let l = c .before .before .before .before .before .before .before .before .before .before .before .before .before .before .before .before .before in
     let put = c .before .before .before .put-answer .ensures in
-    let low = place-in-below (heldIn (l .loop .held)) (c .before .before .before .before .before .before .before .before .before .before .before .before .line-in .ensures) (c .before .before .before .before .before .before .before .before .before .before .before .place-of .ensures) in
+    let low = place-in-below (heldIn (l .loop .held))
+    (c .before .before .before .before .before .before .before .before .before .before .before .before .line-in .ensures)
+    (c .before .before .before .before .before .before .before .before .before .before .before .place-of .ensures) in
     let g =
-    on-feed _ _ (l .loop .i) (c .before .before .before .before .before .before .before .before .before .before .before .before .before .before .before .before .loop-test .taken) _ _ (l .loop .lines) (l .loop .inv .4) (l .loop .inv .2) (omega (arith, c .before .before .before .before .before .before .before .before .before .before .before .before .before .before .before .if1 .left, l .loop .inv .1)) (c .before .before .before .before .before .before .before .before .before .turn .result) (c .before .before .before .before .before .before .before .before .before .before .before .before .before .if2 .taken) (c .before .before .before .before .before .before .before .before .before .before .before .before .line-in .ensures) (c .before .before .before .before .before .before .before .before .before .before .before .place-of .ensures) (within (l .loop .txs) (c .before .before .before .before .before .before .before .before .before .before .before .place-of .result) _ zeroTx (omega (arith, low, l .loop .inv .3))) (c .before .before .before .before .before .before .before .before .before .turn .ensures) (c .before .before .before .before .before .wrapping-add-u64 .ensures) put (c .none .ensures) in
-    (omega (arith, c .before .before .before .before .before .before .before .before .before .before .before .before .before .before .before .before .loop-test .taken), omega (arith, put .long, put .few, c .before .before .before .before .before .before .before .before .before .before .before .before .before .before .before .if1 .left, l .loop .inv .1), put .long ∙ l .loop .inv .2, simp length-set (l .loop .inv .3), g)
+    on-feed _ _ (l .loop .i)
+    (c .before .before .before .before .before .before .before .before .before .before .before .before .before .before .before .before .loop-test .taken)
+    _ _ (l .loop .lines) (l .loop .inv .4) (l .loop .inv .2) (omega (
+      arith,
+      c .before .before .before .before .before .before .before .before .before .before .before .before .before .before .before .if1 .left,
+      l .loop .inv .1,
+    )) (c .before .before .before .before .before .before .before .before .before .turn .result)
+    (c .before .before .before .before .before .before .before .before .before .before .before .before .before .if2 .taken)
+    (c .before .before .before .before .before .before .before .before .before .before .before .before .line-in .ensures)
+    (c .before .before .before .before .before .before .before .before .before .before .before .place-of .ensures)
+    (within (l .loop .txs) (c .before .before .before .before .before .before .before .before .before .before .before .place-of .result) _
+    zeroTx (omega (arith, low, l .loop .inv .3)))
+    (c .before .before .before .before .before .before .before .before .before .turn .ensures)
+    (c .before .before .before .before .before .wrapping-add-u64 .ensures) put (c .none .ensures) in (
+      omega (
+        arith,
+        c .before .before .before .before .before .before .before .before .before .before .before .before .before .before .before .before .loop-test .taken,
+      ),
+      omega (
+        arith,
+        put .long,
+        put .few,
+        c .before .before .before .before .before .before .before .before .before .before .before .before .before .before .before .if1 .left,
+        l .loop .inv .1,
+      ),
+      put .long ∙ l .loop .inv .2,
+      simp length-set (l .loop .inv .3),
+      g,
+    )
 
 loop-again-2 : tie.Need-loop-again-2 Inv-loop μ-loop
 loop-again-2 c =
-    let l = c .before .before .before .before .before in
-    (omega arith, omega arith, l .loop .inv .2, l .loop .inv .3, on-byte _ _ (l .loop .i) (omega arith) _ _ (l .loop .lines) (l .loop .inv .4) (l .loop .inv .2) (omega arith) (c .before .if2 .left) (c .with-byte .ensures))
+    let l = c .before .before .before .before .before in (
+      omega arith,
+      omega arith,
+      l .loop .inv .2,
+      l .loop .inv .3,
+      on-byte _ _ (l .loop .i) (omega arith) _ _ (l .loop .lines) (l .loop .inv .4) (l .loop .inv .2) (omega arith) (c .before .if2 .left)
+          (c .with-byte .ensures),
+    )
 
 returns : tie.Need-returns Inv-loop μ-loop
 returns c = let l = c .before .loop in feeds _ (l .inv .0) (l .inv .1) (l .inv .2) (l .inv .4) (λ h. omega (arith, c .loop-test .left, l .inv .0))
 
 returns-2 : tie.Need-returns-2 Inv-loop μ-loop
-returns-2 c = let l = c .before .before .loop in feeds _ (l .inv .0) (l .inv .1) (l .inv .2) (l .inv .4) (λ h. absurd (omega (arith, c .if1 .taken, l .inv .1, l .inv .2)))
+returns-2 c =
+    let l = c .before .before .loop in
+    feeds _ (l .inv .0) (l .inv .1) (l .inv .2) (l .inv .4) (λ h. absurd (omega (arith, c .if1 .taken, l .inv .1, l .inv .2)))
 
 pub feed-spec : {M : Type 1} → statement M
 feed-spec =

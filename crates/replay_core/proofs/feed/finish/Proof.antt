@@ -18,10 +18,15 @@ returns-2 : tie.Need-returns-2
 returns-2 c = finish-short _ _ (omega arith)
 
 mul-turn : tie.Need-mul-turn
-mul-turn c = let r = c .before .before .before .before .before .before .before .args .t1 in let low = place-in-below (heldIn (r .held)) (c .before .before .line-in .ensures) (c .before .place-of .ensures) in search needs
+mul-turn c =
+    let r = c .before .before .before .before .before .before .before .args .t1 in
+    let low = place-in-below (heldIn (r .held)) (c .before .before .line-in .ensures) (c .before .place-of .ensures) in
+    search needs
 
 element-copy-out-turn : tie.Need-element-copy-out-turn
-element-copy-out-turn c = let r = c .before .before .before .before .before .before .before .args .t1 in place-in-below (heldIn (r .held)) (c .before .before .line-in .ensures) (c .before .place-of .ensures)
+element-copy-out-turn c =
+    let r = c .before .before .before .before .before .before .before .args .t1 in
+    place-in-below (heldIn (r .held)) (c .before .before .line-in .ensures) (c .before .place-of .ensures)
 
 returns-3 : tie.Need-returns-3
 returns-3 c =
@@ -34,8 +39,12 @@ returns-3 c =
     let r = s .args .t1 in
     let line = p .before .line-in .ensures in
     let low = place-in-below (heldIn (r .held)) line (p .place-of .ensures) in
-    let left : length (take (r .held .count) (r .held .bytes)) ≡ 0 → ⊥ = λ z. room .before .if1 .left (omega (arith, length-take (r .held .count) (r .held .bytes), under-way-long r (s .good .0), z)) in
-    finish-line _ _ _ (put .put-answer .result) left (room .if2 .left) (end-puts (reading r .desk) (heldIn (r .held)) (r .lines) (turned .turn .result) line (p .place-of .ensures) (within (r .txs) (p .place-of .result) _ zeroTx (omega (arith, low, txs-long r (s .good .0)))) (turned .turn .ensures) (next .wrapping-add-u64 .ensures) (put .put-answer .ensures))
+    let left : length (take (r .held .count) (r .held .bytes)) ≡ 0 → ⊥ =
+    λ z. room .before .if1 .left (omega (arith, length-take (r .held .count) (r .held .bytes), under-way-long r (s .good .0), z)) in
+    finish-line _ _ _ (put .put-answer .result) left (room .if2 .left)
+    (end-puts (reading r .desk) (heldIn (r .held)) (r .lines) (turned .turn .result) line (p .place-of .ensures)
+    (within (r .txs) (p .place-of .result) _ zeroTx (omega (arith, low, txs-long r (s .good .0)))) (turned .turn .ensures)
+    (next .wrapping-add-u64 .ensures) (put .put-answer .ensures))
 
 pub finish-spec : {M : Type 1} → statement M
 finish-spec =

@@ -12,7 +12,11 @@ unfolding first start
 returns c =
     λ i.
     record {
-      desk = record { store = c .before .before .before .fresh .ensures i; txs = replicate placeLimit (c .before .before .zero .ensures i); plan = c .before .none .ensures i };
+      desk = record {
+        store = c .before .before .before .fresh .ensures i;
+        txs = replicate placeLimit (c .before .before .zero .ensures i);
+        plan = c .before .none .ensures i;
+      };
       held = c .none2 .ensures i;
       lines = 0;
     }

@@ -28,11 +28,16 @@ returns c = c .zero-from .ensures ∙ active-stop _ _ _ _ _ _ (c .before .before
 returns-2 : tie.Need-returns-2 Inv-loop μ-loop
 returns-2 c = ⊎-elim
     (λ w. active-low _ _ _ _ _ _ (c .before .before .before .before .loop .inv .1) (omega arith) (c .before .if1 .left) (w .taken))
-    (λ w. active-high _ _ _ _ _ _ (c .before .before .before .before .loop .inv .1) (omega arith) (c .before .if1 .left) (w .0 .left) (leb-true _ _ (w .1 .taken)))
+    (λ w. active-high _ _ _ _ _ _ (c .before .before .before .before .loop .inv .1) (omega arith) (c .before .if1 .left) (w .0 .left)
+    (leb-true _ _ (w .1 .taken)))
     (c .if2 .came)
 
 loop-again : tie.Need-loop-again Inv-loop μ-loop
-loop-again c = (omega arith, active-pass _ _ _ _ _ _ (c .before .before .before .before .before .loop .inv .1) (omega arith) (c .before .before .if1 .left) (c .before .if2 .left) (leb-false _ _ (c .if3 .left)))
+loop-again c = (
+  omega arith,
+  active-pass _ _ _ _ _ _ (c .before .before .before .before .before .loop .inv .1) (omega arith) (c .before .before .if1 .left)
+      (c .before .if2 .left) (leb-false _ _ (c .if3 .left)),
+)
 
 returns-3 : tie.Need-returns-3 Inv-loop μ-loop
 returns-3 c = active-end _ _ _ _ _ _ (c .before .loop .inv .1) (omega arith)

@@ -9,7 +9,8 @@ use Rattle.resting.proofs.active.zero_from.Statement.{statement}
 use Rattle.resting.proofs.active.zero_from.Tie as tie
 
 returns : tie.Need-returns
-returns c = c .zeros-from .ensures ∙ ap (λ l. allZero (drop (c .before .before .args .n) l)) (sym (array-same activeLimit 0 _ (c .before .zeros-from-arg .given .0)))
+returns c =
+    c .zeros-from .ensures ∙ ap (λ l. allZero (drop (c .before .before .args .n) l)) (sym (array-same activeLimit 0 _ (c .before .zeros-from-arg .given .0)))
 
 pub zero-from-spec : {M : Type 1} → statement M
 zero-from-spec = tie.close (tie.spec (λ c κs. search needs) returns)

@@ -13,7 +13,8 @@ use Rattle.resting.proofs.chains.chains_ok.Statement.{statement}
 use Rattle.resting.proofs.chains.chains_ok.Tie as tie
 
 abbrev Inv-loop : tie.InvT-loop
-Inv-loop heads xmin xmax next active doomed r₀ r = (r ≤ rows) × (allLeft (chainAt xmin xmax next active doomed) rows 0 heads r ≡ all (chainAt xmin xmax next active doomed) (atRows heads))
+Inv-loop heads xmin xmax next active doomed r₀ r =
+    (r ≤ rows) × (allLeft (chainAt xmin xmax next active doomed) rows 0 heads r ≡ all (chainAt xmin xmax next active doomed) (atRows heads))
 
 abbrev μ-loop : tie.MeasureT-loop
 μ-loop heads xmin xmax next active doomed r₀ r = rows - r
@@ -23,10 +24,14 @@ unfolding allLeft
 loop-holds c = search needs
 
 returns : tie.Need-returns Inv-loop μ-loop
-returns c = all-fail _ _ _ _ _ _ (c .before .before .before .before .loop .inv .1) (omega arith) (sym (c .before .chain-ok .ensures) ∙ not-true _ (c .if1 .taken))
+returns c =
+    all-fail _ _ _ _ _ _ (c .before .before .before .before .loop .inv .1) (omega arith) (sym (c .before .chain-ok .ensures) ∙ not-true _ (c .if1 .taken))
 
 loop-again : tie.Need-loop-again Inv-loop μ-loop
-loop-again c = (omega arith, all-pass _ _ _ _ _ _ (c .before .before .before .before .loop .inv .1) (omega arith) (sym (c .before .chain-ok .ensures) ∙ not-false _ (c .if1 .left)))
+loop-again c = (
+  omega arith,
+  all-pass _ _ _ _ _ _ (c .before .before .before .before .loop .inv .1) (omega arith) (sym (c .before .chain-ok .ensures) ∙ not-false _ (c .if1 .left)),
+)
 
 returns-2 : tie.Need-returns-2 Inv-loop μ-loop
 returns-2 c = all-end _ _ _ _ _ _ (c .before .loop .inv .1) (omega arith)

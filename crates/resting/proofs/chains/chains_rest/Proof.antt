@@ -14,7 +14,8 @@ use Rattle.resting.proofs.chains.chains_rest.Statement.{statement}
 use Rattle.resting.proofs.chains.chains_rest.Tie as tie
 
 abbrev Inv-loop : tie.InvT-loop
-Inv-loop xmin xmax active doomed seen i₀ i = (i ≤ places) × (usedLeft (restAt xmin xmax active doomed seen) places xmin i ≡ all (restAt xmin xmax active doomed seen) (usedSlots (atPlaces xmin)))
+Inv-loop xmin xmax active doomed seen i₀ i =
+    (i ≤ places) × (usedLeft (restAt xmin xmax active doomed seen) places xmin i ≡ all (restAt xmin xmax active doomed seen) (usedSlots (atPlaces xmin)))
 
 abbrev μ-loop : tie.MeasureT-loop
 μ-loop xmin xmax active doomed seen i₀ i = places - i
@@ -24,7 +25,9 @@ unfolding usedLeft
 loop-holds c = search needs
 
 returns : tie.Need-returns Inv-loop μ-loop
-returns c = used-fail _ _ _ _ _ (c .before .before .before .before .before .loop .inv .1) (omega arith) (c .before .before .if1 .taken) (sym (c .before .rest-ok .ensures) ∙ not-true _ (c .if2 .taken))
+returns c =
+    used-fail _ _ _ _ _ (c .before .before .before .before .before .loop .inv .1) (omega arith) (c .before .before .if1 .taken)
+    (sym (c .before .rest-ok .ensures) ∙ not-true _ (c .if2 .taken))
 
 loop-again : tie.Need-loop-again Inv-loop μ-loop
 loop-again c = (

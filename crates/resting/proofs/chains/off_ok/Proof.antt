@@ -12,10 +12,15 @@ returns-2 : tie.Need-returns-2
 returns-2 c = off-over _ _ _ _ _ _ _ (c .before .before .before .before .pre) (c .before .before .if1 .left) (c .if2 .taken)
 
 returns-3 : tie.Need-returns-3
-returns-3 c = off-high _ _ _ _ _ _ _ (c .before .before .before .before .before .before .before .pre) (c .before .before .before .before .before .if1 .left) (c .before .before .before .if2 .left) (omega arith)
+returns-3 c =
+    off-high _ _ _ _ _ _ _ (c .before .before .before .before .before .before .before .pre)
+    (c .before .before .before .before .before .if1 .left) (c .before .before .before .if2 .left) (omega arith)
 
 returns-4 : tie.Need-returns-4
-returns-4 c = off-else _ _ _ _ _ _ _ (c .before .before .before .before .before .before .before .before .before .pre) (c .before .before .before .before .before .before .before .if1 .left) (c .before .before .before .before .before .if2 .left) _ (omega arith) (c .is-finished .ensures)
+returns-4 c =
+    off-else _ _ _ _ _ _ _ (c .before .before .before .before .before .before .before .before .before .pre)
+    (c .before .before .before .before .before .before .before .if1 .left) (c .before .before .before .before .before .if2 .left) _
+    (omega arith) (c .is-finished .ensures)
 
 pub off-ok-spec : {M : Type 1} → statement M
 off-ok-spec =

@@ -14,7 +14,9 @@ use Rattle.resting.proofs.chains.off_slots_ok.Statement.{statement}
 use Rattle.resting.proofs.chains.off_slots_ok.Tie as tie
 
 abbrev Inv-loop : tie.InvT-loop
-Inv-loop xmin xmax next active doomed seen i₀ i = (i ≤ places) × (usedLeft (offAt xmin xmax next active doomed seen) places xmin i ≡ all (offAt xmin xmax next active doomed seen) (usedSlots (atPlaces xmin)))
+Inv-loop xmin xmax next active doomed seen i₀ i =
+    (i ≤ places)
+    × (usedLeft (offAt xmin xmax next active doomed seen) places xmin i ≡ all (offAt xmin xmax next active doomed seen) (usedSlots (atPlaces xmin)))
 
 abbrev μ-loop : tie.MeasureT-loop
 μ-loop xmin xmax next active doomed seen i₀ i = places - i
@@ -24,7 +26,9 @@ unfolding usedLeft
 loop-holds c = search needs
 
 returns : tie.Need-returns Inv-loop μ-loop
-returns c = used-fail _ _ _ _ _ (c .before .before .before .before .before .loop .inv .1) (omega arith) (c .before .before .if1 .taken) (sym (c .before .off-ok .ensures) ∙ not-true _ (c .if2 .taken))
+returns c =
+    used-fail _ _ _ _ _ (c .before .before .before .before .before .loop .inv .1) (omega arith) (c .before .before .if1 .taken)
+    (sym (c .before .off-ok .ensures) ∙ not-true _ (c .if2 .taken))
 
 loop-again : tie.Need-loop-again Inv-loop μ-loop
 loop-again c = (

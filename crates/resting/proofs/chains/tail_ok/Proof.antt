@@ -14,10 +14,15 @@ abbrev μ-loop : tie.MeasureT-loop
 μ-loop xmin xmax next active doomed over left p v₀ n₀ q₀ v n q = n
 
 returns : tie.Need-returns Inv-loop μ-loop
-returns c = tail-over _ _ _ _ _ _ _ _ _ (c .before .before .before .before .before .loop .inv) (omega arith) (eqb-false _ _ (not-true _ (c .before .before .before .if1 .taken))) _ (c .before .txid-at2 .ensures) (c .if2 .taken)
+returns c =
+    tail-over _ _ _ _ _ _ _ _ _ (c .before .before .before .before .before .loop .inv) (omega arith)
+    (eqb-false _ _ (not-true _ (c .before .before .before .if1 .taken))) _ (c .before .txid-at2 .ensures) (c .if2 .taken)
 
 returns-2 : tie.Need-returns-2 Inv-loop μ-loop
-returns-2 c = tail-unfinished _ _ _ _ _ _ _ _ _ (c .before .before .before .before .before .before .before .loop .inv) (omega arith) (eqb-false _ _ (not-true _ (c .before .before .before .before .before .if1 .taken))) _ (c .before .before .before .before .txid-at .ensures) (sym (c .before .is-finished .ensures) ∙ not-true _ (c .if3 .taken))
+returns-2 c =
+    tail-unfinished _ _ _ _ _ _ _ _ _ (c .before .before .before .before .before .before .before .loop .inv) (omega arith)
+    (eqb-false _ _ (not-true _ (c .before .before .before .before .before .if1 .taken))) _
+    (c .before .before .before .before .txid-at .ensures) (sym (c .before .is-finished .ensures) ∙ not-true _ (c .if3 .taken))
 
 loop-again : tie.Need-loop-again Inv-loop μ-loop
 loop-again c = tail-step _ _ _ _ _ _ _ _ _

@@ -14,7 +14,8 @@ use Rattle.resting.proofs.postings.each_told.Statement.{statement}
 use Rattle.resting.proofs.postings.each_told.Tie as tie
 
 abbrev Inv-loop : tie.InvT-loop
-Inv-loop heads key has postings n i₀ i = (i ≤ n) × (firstLeft (toldAt heads key has) n postingLimit 0 postings i ≡ all (toldAt heads key has) (take n (array postingLimit 0 postings)))
+Inv-loop heads key has postings n i₀ i =
+    (i ≤ n) × (firstLeft (toldAt heads key has) n postingLimit 0 postings i ≡ all (toldAt heads key has) (take n (array postingLimit 0 postings)))
 
 abbrev μ-loop : tie.MeasureT-loop
 μ-loop heads key has postings n i₀ i = n - i
@@ -27,10 +28,16 @@ returns : tie.Need-returns Inv-loop μ-loop
 returns c = first-out _ _ _ _ _ _ _ (c .before .before .loop .inv .1) (c .if1 .taken)
 
 returns-2 : tie.Need-returns-2 Inv-loop μ-loop
-returns-2 c = first-fail _ _ _ _ _ _ _ (c .before .before .before .before .before .loop .inv .1) (omega arith) (omega arith) (sym (c .before .told-by-head .ensures) ∙ not-true _ (c .if2 .taken))
+returns-2 c =
+    first-fail _ _ _ _ _ _ _ (c .before .before .before .before .before .loop .inv .1) (omega arith) (omega arith)
+    (sym (c .before .told-by-head .ensures) ∙ not-true _ (c .if2 .taken))
 
 loop-again : tie.Need-loop-again Inv-loop μ-loop
-loop-again c = (omega arith, first-pass _ _ _ _ _ _ _ (c .before .before .before .before .before .loop .inv .1) (omega arith) (omega arith) (sym (c .before .told-by-head .ensures) ∙ not-false _ (c .if2 .left)))
+loop-again c = (
+  omega arith,
+  first-pass _ _ _ _ _ _ _ (c .before .before .before .before .before .loop .inv .1) (omega arith) (omega arith)
+      (sym (c .before .told-by-head .ensures) ∙ not-false _ (c .if2 .left)),
+)
 
 returns-3 : tie.Need-returns-3 Inv-loop μ-loop
 returns-3 c = first-none _ _ _ _ _ _ _ (c .before .loop .inv .1) (omega arith)

@@ -30,12 +30,29 @@ loop-holds c = (omega arith, omega arith, omega arith)
 loop-again : tie.Need-loop-again Inv-loop μ-loop
 loop-again c = let h : c .before .before .before .before .loop .r < rows = omega arith in
     ⊎-elim
-    (λ w. (omega arith, omega arith, omega (arith, count-yes (valuedBy (c .before .before .before .before .before .args .has .now)) rows 0 (c .before .before .before .before .before .args .heads .now) (c .before .before .before .before .loop .r) h (sym (c .before .flag-at .ensures) ∙ w .0 .taken))))
-    (λ w. (omega arith, omega arith, omega (arith, count-no (valuedBy (c .before .before .before .before .before .args .has .now)) rows 0 (c .before .before .before .before .before .args .heads .now) (c .before .before .before .before .loop .r) h (sym (c .before .flag-at .ensures) ∙ w .0 .left))))
+    (λ w. (
+      omega arith,
+      omega arith,
+      omega (
+        arith,
+        count-yes (valuedBy (c .before .before .before .before .before .args .has .now)) rows 0 (c .before .before .before .before .before .args .heads .now)
+            (c .before .before .before .before .loop .r) h (sym (c .before .flag-at .ensures) ∙ w .0 .taken),
+      ),
+    ))
+    (λ w. (
+      omega arith,
+      omega arith,
+      omega (
+        arith,
+        count-no (valuedBy (c .before .before .before .before .before .args .has .now)) rows 0 (c .before .before .before .before .before .args .heads .now)
+            (c .before .before .before .before .loop .r) h (sym (c .before .flag-at .ensures) ∙ w .0 .left),
+      ),
+    ))
     (c .if1 .came)
 
 returns : tie.Need-returns Inv-loop μ-loop
-returns c = omega (arith, count-end (valuedBy (c .before .before .args .has .now)) rows 0 (c .before .before .args .heads .now) (c .before .loop .r) (omega arith))
+returns c =
+    omega (arith, count-end (valuedBy (c .before .before .args .has .now)) rows 0 (c .before .before .args .heads .now) (c .before .loop .r) (omega arith))
 
 pub valued-spec : {M : Type 1} → statement M
 valued-spec =

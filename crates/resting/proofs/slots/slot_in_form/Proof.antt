@@ -28,15 +28,35 @@ returns-5 c = rw (nonzero-no (c .before .before .before .if1 .left), zero-yes (c
 
 returns-6 : tie.Need-returns-6
 unfolding every
-returns-6 c = rw (nonzero-no (c .before .before .before .before .if1 .left), zero-yes (c .before .before .before .if3 .left), zero-yes (c .before .before .if4 .left), c .before .if5 .left, c .if6 .taken)
+returns-6 c = rw (
+  nonzero-no (c .before .before .before .before .if1 .left),
+  zero-yes (c .before .before .before .if3 .left),
+  zero-yes (c .before .before .if4 .left),
+  c .before .if5 .left,
+  c .if6 .taken,
+)
 
 returns-7 : tie.Need-returns-7
 unfolding every
-returns-7 c = rw (nonzero-no (c .before .before .before .before .before .if1 .left), zero-yes (c .before .before .before .before .if3 .left), zero-yes (c .before .before .before .if4 .left), c .before .before .if5 .left, c .before .if6 .left, zero-no (c .if7 .taken))
+returns-7 c = rw (
+  nonzero-no (c .before .before .before .before .before .if1 .left),
+  zero-yes (c .before .before .before .before .if3 .left),
+  zero-yes (c .before .before .before .if4 .left),
+  c .before .before .if5 .left,
+  c .before .if6 .left,
+  zero-no (c .if7 .taken),
+)
 
 returns-8 : tie.Need-returns-8
 unfolding every
-returns-8 c = rw (nonzero-no (c .before .before .before .before .before .if1 .left), zero-yes (c .before .before .before .before .if3 .left), zero-yes (c .before .before .before .if4 .left), c .before .before .if5 .left, c .before .if6 .left, zero-yes (c .if7 .left)) (sym (and-true _))
+returns-8 c = rw (
+  nonzero-no (c .before .before .before .before .before .if1 .left),
+  zero-yes (c .before .before .before .before .if3 .left),
+  zero-yes (c .before .before .before .if4 .left),
+  c .before .before .if5 .left,
+  c .before .if6 .left,
+  zero-yes (c .if7 .left),
+) (sym (and-true _))
 
 pub slot-in-form-spec : {M : Type 1} → statement M
 slot-in-form-spec =

@@ -13,7 +13,8 @@ use Rattle.resting.proofs.slots.slots_in_form.Statement.{statement}
 use Rattle.resting.proofs.slots.slots_in_form.Tie as tie
 
 abbrev Inv-loop : tie.InvT-loop
-Inv-loop xmin xmax next key has locked owner i₀ i = (i ≤ places) × (formLeft xmin xmax next key has locked owner i ≡ formLeft xmin xmax next key has locked owner 0)
+Inv-loop xmin xmax next key has locked owner i₀ i =
+    (i ≤ places) × (formLeft xmin xmax next key has locked owner i ≡ formLeft xmin xmax next key has locked owner 0)
 
 abbrev μ-loop : tie.MeasureT-loop
 μ-loop xmin xmax next key has locked owner i₀ i = places - i
@@ -26,13 +27,23 @@ loop-holds : tie.Need-loop-holds Inv-loop μ-loop
 loop-holds c = (omega arith, refl)
 
 returns-2 : tie.Need-returns-2 Inv-loop μ-loop
-returns-2 c = form-says _ _ _ _ _ _ _ (c .before .before .before .before .before .before .before .before .before .before .before .before .txid-at .ensures) (c .before .before .before .before .before .before .before .before .before .before .before .if1 .left) (form-fail _ _ _ _ _ _ _ _ (c .before .before .before .before .before .before .before .before .before .before .loop .inv .1) (omega arith) (c .before .slot-in-form .ensures) (not-true _ (c .if2 .taken)))
+returns-2 c =
+    form-says _ _ _ _ _ _ _ (c .before .before .before .before .before .before .before .before .before .before .before .before .txid-at .ensures)
+    (c .before .before .before .before .before .before .before .before .before .before .before .if1 .left)
+    (form-fail _ _ _ _ _ _ _ _ (c .before .before .before .before .before .before .before .before .before .before .loop .inv .1)
+    (omega arith) (c .before .slot-in-form .ensures) (not-true _ (c .if2 .taken)))
 
 loop-again : tie.Need-loop-again Inv-loop μ-loop
-loop-again c = (omega arith, form-pass _ _ _ _ _ _ _ _ (c .before .before .before .before .before .before .before .before .before .before .loop .inv .1) (omega arith) (c .before .slot-in-form .ensures) (not-false _ (c .if2 .left)))
+loop-again c = (
+  omega arith,
+  form-pass _ _ _ _ _ _ _ _ (c .before .before .before .before .before .before .before .before .before .before .loop .inv .1) (omega arith)
+      (c .before .slot-in-form .ensures) (not-false _ (c .if2 .left)),
+)
 
 returns-3 : tie.Need-returns-3 Inv-loop μ-loop
-returns-3 c = form-says _ _ _ _ _ _ _ (c .before .before .before .txid-at .ensures) (c .before .before .if1 .left) (form-end _ _ _ _ _ _ _ _ (c .before .loop .inv .1) (omega arith))
+returns-3 c =
+    form-says _ _ _ _ _ _ _ (c .before .before .before .txid-at .ensures) (c .before .before .if1 .left)
+    (form-end _ _ _ _ _ _ _ _ (c .before .loop .inv .1) (omega arith))
 
 pub slots-in-form-spec : {M : Type 1} → statement M
 slots-in-form-spec =

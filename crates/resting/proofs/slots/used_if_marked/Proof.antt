@@ -24,7 +24,9 @@ unfolding eachLeft
 loop-holds c = search needs
 
 returns : tie.Need-returns Inv-loop μ-loop
-returns c = each-fail _ _ _ _ _ _ _ _ _ (c .before .before .before .before .before .loop .inv .1) (omega arith) (not-true _ (c .if2 .taken)) (nonzero-no (c .before .before .if1 .taken))
+returns c =
+    each-fail _ _ _ _ _ _ _ _ _ (c .before .before .before .before .before .loop .inv .1) (omega arith) (not-true _ (c .if2 .taken))
+    (nonzero-no (c .before .before .if1 .taken))
 
 loop-again : tie.Need-loop-again Inv-loop μ-loop
 loop-again c = (

@@ -25,16 +25,21 @@ returns c =
 
 returns-2 : tie.Need-returns-2 Inv-loop μ-loop
 returns-2 c =
-    let a = c .before .before .before .before in sym (digits-high (a .before .args .s .now) (a .loop .v) (a .loop .i) (omega arith) (omega arith)) ∙ a .loop .inv .2
+    let a = c .before .before .before .before in
+    sym (digits-high (a .before .args .s .now) (a .loop .v) (a .loop .i) (omega arith) (omega arith)) ∙ a .loop .inv .2
 
 returns-3 : tie.Need-returns-3 Inv-loop μ-loop
 returns-3 c =
-    let a = c .before .before .before .before .before in sym (digits-large (a .before .args .s .now) (a .loop .v) (a .loop .i) (omega arith) (omega arith)) ∙ a .loop .inv .2
+    let a = c .before .before .before .before .before in
+    sym (digits-large (a .before .args .s .now) (a .loop .v) (a .loop .i) (omega arith) (omega arith)) ∙ a .loop .inv .2
 
 loop-again : tie.Need-loop-again Inv-loop μ-loop
 loop-again c =
-    let a = c .before .before .before .before .before in
-    (omega arith, omega arith, sym (digits-more (a .before .args .s .now) (a .loop .v) (a .loop .i) (omega arith) (omega arith) (omega arith) (omega arith)) ∙ a .loop .inv .2)
+    let a = c .before .before .before .before .before in (
+      omega arith,
+      omega arith,
+      sym (digits-more (a .before .args .s .now) (a .loop .v) (a .loop .i) (omega arith) (omega arith) (omega arith) (omega arith)) ∙ a .loop .inv .2,
+    )
 
 returns-4 : tie.Need-returns-4 Inv-loop μ-loop
 returns-4 c =

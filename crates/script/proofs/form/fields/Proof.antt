@@ -26,7 +26,10 @@ returns-2 c =
     let b = c .before .before .before in
     let a = b .before .before .before in
     let s = a .before .before .args .s .now in
-    rw (split-first 9 s (a .up-to .ensures .0) (omega arith), split-last 9 (after s (a .up-to .result)) (b .up-to2 .ensures .0) (c .before .before .if2 .taken)) (c .two-fields .ensures)
+    rw (
+      split-first 9 s (a .up-to .ensures .0) (omega arith),
+      split-last 9 (after s (a .up-to .result)) (b .up-to2 .ensures .0) (c .before .before .if2 .taken),
+    ) (c .two-fields .ensures)
 
 slice-aggregate-three-fields : tie.Need-slice-aggregate-three-fields
 slice-aggregate-three-fields c =
@@ -52,7 +55,11 @@ returns-3 c =
     let s = a .before .before .args .s .now in
     let t = after s (a .up-to .result) in
     let u = after t (b .up-to2 .result) in
-    rw (split-first 9 s (a .up-to .ensures .0) (omega arith), split-first 9 t (b .up-to2 .ensures .0) (omega arith), split-last 9 u (d .up-to3 .ensures .0) (c .before .before .before .if3 .taken)) (c .three-fields .ensures)
+    rw (
+      split-first 9 s (a .up-to .ensures .0) (omega arith),
+      split-first 9 t (b .up-to2 .ensures .0) (omega arith),
+      split-last 9 u (d .up-to3 .ensures .0) (c .before .before .before .if3 .taken),
+    ) (c .three-fields .ensures)
 
 returns-4 : tie.Need-returns-4
 returns-4 c =

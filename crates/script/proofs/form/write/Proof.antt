@@ -14,14 +14,23 @@ returns-2 : tie.Need-returns-2
 returns-2 c =
     let at-i = c .before .before .before .before in
     let a = at-i .before .before .before .before .before .before .args in
-    rw (write-fields (a .p .now) (a .q .now) (a .r .now), sym (at-i .before .before .place .ensures) ∙ at-i .i .given .1, sym (c .before .before .number .ensures) ∙ c .enum-told2 .given .1)
+    rw (
+      write-fields (a .p .now) (a .q .now) (a .r .now),
+      sym (at-i .before .before .place .ensures) ∙ at-i .i .given .1,
+      sym (c .before .before .number .ensures) ∙ c .enum-told2 .given .1,
+    )
 
 returns-3 : tie.Need-returns-3
 returns-3 c =
     let at-n = c .before .before .before .before in
     let at-i = at-n .before .before .before .before in
     let a = at-i .before .before .before .before .before .before .args in
-    rw (write-fields (a .p .now) (a .q .now) (a .r .now), sym (at-i .before .before .place .ensures) ∙ at-i .i .given .1, sym (at-n .before .before .number .ensures) ∙ at-n .n .given .1, sym (c .before .before .value .ensures) ∙ c .enum-told3 .given .1)
+    rw (
+      write-fields (a .p .now) (a .q .now) (a .r .now),
+      sym (at-i .before .before .place .ensures) ∙ at-i .i .given .1,
+      sym (at-n .before .before .number .ensures) ∙ at-n .n .given .1,
+      sym (c .before .before .value .ensures) ∙ c .enum-told3 .given .1,
+    )
 
 returns-4 : tie.Need-returns-4
 returns-4 c =
@@ -29,7 +38,12 @@ returns-4 c =
     let at-n = at-v .before .before .before .before in
     let at-i = at-n .before .before .before .before in
     let a = at-i .before .before .before .before .before .before .args in
-    rw (write-fields (a .p .now) (a .q .now) (a .r .now), sym (at-i .before .before .place .ensures) ∙ at-i .i .given .1, sym (at-n .before .before .number .ensures) ∙ at-n .n .given .1, sym (at-v .before .before .value .ensures) ∙ at-v .v .given .1)
+    rw (
+      write-fields (a .p .now) (a .q .now) (a .r .now),
+      sym (at-i .before .before .place .ensures) ∙ at-i .i .given .1,
+      sym (at-n .before .before .number .ensures) ∙ at-n .n .given .1,
+      sym (at-v .before .before .value .ensures) ∙ at-v .v .given .1,
+    )
 
 pub write-spec : {M : Type 1} → statement M
 write-spec =

@@ -19,7 +19,14 @@ returns c =
       full = omega arith;
       inside = omega arith;
       text =
-          rw (line .put-number2 .ensures .2, tab-2 .put-byte3 .ensures .1, number .put-number .ensures .2, tab .put-byte2 .ensures .1, third .put-third .ensures .2, feed .put-byte .ensures .1)
+          rw (
+            line .put-number2 .ensures .2,
+            tab-2 .put-byte3 .ensures .1,
+            number .put-number .ensures .2,
+            tab .put-byte2 .ensures .1,
+            third .put-third .ensures .2,
+            feed .put-byte .ensures .1,
+          )
           (line-text (a .line) (a .number) (thirdOf (a .t)));
     }
 

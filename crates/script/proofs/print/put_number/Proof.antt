@@ -29,14 +29,21 @@ same-length c = simp length-set (search needs)
 returns : tie.Need-returns Inv-loop μ-loop
 returns c =
     let a = c .before .before in
-    let l = a .loop .out in
-    (omega arith, omega arith, sym (digits-last l (a .before .args .at - digits) (a .loop .k) (a .loop .left) (omega arith) (omega arith) (omega arith)) ∙ a .loop .inv .3)
+    let l = a .loop .out in (
+      omega arith,
+      omega arith,
+      sym (digits-last l (a .before .args .at - digits) (a .loop .k) (a .loop .left) (omega arith) (omega arith) (omega arith)) ∙ a .loop .inv .3,
+    )
 
 loop-again : tie.Need-loop-again Inv-loop μ-loop
 loop-again c =
     let a = c .before .before in
-    let l = a .loop .out in
-    (omega arith, omega arith, simp length-set (a .loop .inv .2), sym (digits-more l (a .before .args .at - digits) (a .loop .k) (a .loop .left) (omega arith) (omega arith) (omega arith)) ∙ a .loop .inv .3)
+    let l = a .loop .out in (
+      omega arith,
+      omega arith,
+      simp length-set (a .loop .inv .2),
+      sym (digits-more l (a .before .args .at - digits) (a .loop .k) (a .loop .left) (omega arith) (omega arith) (omega arith)) ∙ a .loop .inv .3,
+    )
 
 returns-2 : tie.Need-returns-2 Inv-loop μ-loop
 returns-2 c =

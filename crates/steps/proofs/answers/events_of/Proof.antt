@@ -7,7 +7,15 @@ use Rattle.steps.proofs.answers.events_of.Tie as tie
 
 returns : tie.Need-returns
 unfolding eventsOf eventsBy
-returns c = rw (c .before .before .before .before .before .before .both2 .ensures, c .before .before .before .before .before .before .before .both .ensures, c .before .before .before .before .before .both3 .ensures, c .before .before .before .before .both4 .ensures, c .before .before .both5 .ensures, c .before .both6 .ensures, c .either .ensures)
+returns c = rw (
+  c .before .before .before .before .before .before .both2 .ensures,
+  c .before .before .before .before .before .before .before .both .ensures,
+  c .before .before .before .before .before .both3 .ensures,
+  c .before .before .before .before .both4 .ensures,
+  c .before .before .both5 .ensures,
+  c .before .both6 .ensures,
+  c .either .ensures,
+)
 
 pub events-of-spec : {M : Type 1} → statement M
 events-of-spec =

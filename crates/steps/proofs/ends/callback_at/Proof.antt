@@ -4,7 +4,8 @@ use Rattle.steps.proofs.ends.callback_at.Statement.{statement}
 use Rattle.steps.proofs.ends.callback_at.Tie as tie
 
 returns : tie.Need-returns
-returns c = rw (← c .before .before .before .before .before .before .either .ensures, ← c .before .before .before .either2 .ensures) (c .callback-ended .ensures)
+returns c =
+    rw (← c .before .before .before .before .before .before .either .ensures, ← c .before .before .before .either2 .ensures) (c .callback-ended .ensures)
 
 pub callback-at-spec : {M : Type 1} → statement M
 callback-at-spec =

@@ -60,7 +60,22 @@ returns-13 c = rw (← c .before .before .before .number-at .ensures, c .before 
 returns-14 : tie.Need-returns-14
 unfolding endingFor
 returns-14 c = let rest = c .before .match .rest in
-    rw (← c .before .before .before .number-at .ensures, ne-eqb _ 4 (rest .0 .0 .0 .0 .0 .0 .0 .0 .0 .0 .0 .0 .1), ne-eqb _ 5 (rest .0 .0 .0 .0 .0 .0 .0 .0 .0 .0 .0 .1), ne-eqb _ 6 (rest .0 .0 .0 .0 .0 .0 .0 .0 .0 .0 .1), ne-eqb _ 7 (rest .0 .0 .0 .0 .0 .0 .0 .0 .0 .1), ne-eqb _ 8 (rest .0 .0 .0 .0 .0 .0 .0 .0 .1), ne-eqb _ 9 (rest .0 .0 .0 .0 .0 .0 .0 .1), ne-eqb _ 10 (rest .0 .0 .0 .0 .0 .0 .1), ne-eqb _ 11 (rest .0 .0 .0 .0 .0 .1), ne-eqb _ 13 (rest .0 .0 .0 .0 .1), ne-eqb _ 14 (rest .0 .0 .0 .1), ne-eqb _ 15 (rest .0 .0 .1), ne-eqb _ 16 (rest .0 .1), ne-eqb _ 17 (rest .1)) (c .stays3 .ensures)
+    rw (
+      ← c .before .before .before .number-at .ensures,
+      ne-eqb _ 4 (rest .0 .0 .0 .0 .0 .0 .0 .0 .0 .0 .0 .0 .1),
+      ne-eqb _ 5 (rest .0 .0 .0 .0 .0 .0 .0 .0 .0 .0 .0 .1),
+      ne-eqb _ 6 (rest .0 .0 .0 .0 .0 .0 .0 .0 .0 .0 .1),
+      ne-eqb _ 7 (rest .0 .0 .0 .0 .0 .0 .0 .0 .0 .1),
+      ne-eqb _ 8 (rest .0 .0 .0 .0 .0 .0 .0 .0 .1),
+      ne-eqb _ 9 (rest .0 .0 .0 .0 .0 .0 .0 .1),
+      ne-eqb _ 10 (rest .0 .0 .0 .0 .0 .0 .1),
+      ne-eqb _ 11 (rest .0 .0 .0 .0 .0 .1),
+      ne-eqb _ 13 (rest .0 .0 .0 .0 .1),
+      ne-eqb _ 14 (rest .0 .0 .0 .1),
+      ne-eqb _ 15 (rest .0 .0 .1),
+      ne-eqb _ 16 (rest .0 .1),
+      ne-eqb _ 17 (rest .1),
+    ) (c .stays3 .ensures)
 
 pub ending-at-spec : {M : Type 1} → statement M
 ending-at-spec =

@@ -24,7 +24,8 @@ returns-4 c = rw (← c .before .before .left-at .ensures, c .before .match .key
 returns-5 : tie.Need-returns-5
 unfolding txFor
 returns-5 c = let rest = c .before .match .rest in
-    rw (← c .before .before .left-at .ensures, ne-eqb _ 0 (rest .0 .0 .0 .1), ne-eqb _ 1 (rest .0 .0 .1), ne-eqb _ 2 (rest .0 .1), ne-eqb _ 3 (rest .1)) (c .emptied .ensures)
+    rw (← c .before .before .left-at .ensures, ne-eqb _ 0 (rest .0 .0 .0 .1), ne-eqb _ 1 (rest .0 .0 .1), ne-eqb _ 2 (rest .0 .1), ne-eqb _ 3 (rest .1))
+    (c .emptied .ensures)
 
 pub tx-left-spec : {M : Type 1} → statement M
 tx-left-spec =

@@ -8,13 +8,20 @@ returns : tie.Need-returns
 returns c = λ S d. first-opening _ _ _ _ _ _ _ _ _ _ (c .before .opening .ensures) (c .if1 .taken)
 
 returns-2 : tie.Need-returns-2
-returns-2 c = λ S d. first-guarding _ _ _ _ _ _ _ _ _ _ (c .before .before .before .opening .ensures) (c .before .before .if1 .left) _ (c .before .guarding .ensures) (c .if2 .taken)
+returns-2 c =
+    λ S d. first-guarding _ _ _ _ _ _ _ _ _ _ (c .before .before .before .opening .ensures) (c .before .before .if1 .left) _
+    (c .before .guarding .ensures) (c .if2 .taken)
 
 returns-3 : tie.Need-returns-3
-returns-3 c = λ S d. first-conflict _ _ _ _ _ _ _ _ _ _ (c .before .before .before .before .before .opening .ensures) (c .before .before .before .before .if1 .left) _ (c .before .before .before .guarding .ensures) (c .before .before .if2 .left) _ (c .before .testing .ensures S d) (c .if3 .taken)
+returns-3 c =
+    λ S d. first-conflict _ _ _ _ _ _ _ _ _ _ (c .before .before .before .before .before .opening .ensures) (c .before .before .before .before .if1 .left)
+    _ (c .before .before .before .guarding .ensures) (c .before .before .if2 .left) _ (c .before .testing .ensures S d) (c .if3 .taken)
 
 returns-4 : tie.Need-returns-4
-returns-4 c = λ S d. first-closing _ _ _ _ _ _ _ _ _ _ (c .before .before .before .before .before .before .opening .ensures) (c .before .before .before .before .before .if1 .left) _ (c .before .before .before .before .guarding .ensures) (c .before .before .before .if2 .left) _ (c .before .before .testing .ensures S d) (c .before .if3 .left) _ (c .closing .ensures)
+returns-4 c =
+    λ S d. first-closing _ _ _ _ _ _ _ _ _ _ (c .before .before .before .before .before .before .opening .ensures)
+    (c .before .before .before .before .before .if1 .left) _ (c .before .before .before .before .guarding .ensures)
+    (c .before .before .before .if2 .left) _ (c .before .before .testing .ensures S d) (c .before .if3 .left) _ (c .closing .ensures)
 
 pub first-gate-spec : {M : Type 1} → statement M
 first-gate-spec =

@@ -25,7 +25,8 @@ returns-3 c =
 returns-4 : tie.Need-returns-4
 unfolding guardingTests
 returns-4 c =
-    gate-goes _ _ _ _ _ (c .before .before .before .before .before .before .acquire-index-locks .ensures) (c .before .before .before .before .before .if1 .left) (omega arith) (
+    gate-goes _ _ _ _ _ (c .before .before .before .before .before .before .acquire-index-locks .ensures)
+    (c .before .before .before .before .before .if1 .left) (omega arith) (
     gate-goes _ _ _ _ _ (c .before .before .before .before .acquire-partition-locks .ensures) (c .before .before .before .if2 .left) (omega arith) (
     gate-goes _ _ _ _ _ (c .before .before .ensure-unlogged-write-allowed .ensures) (c .before .if3 .left) (omega arith) (
     c .check-not-poisoned .ensures)))

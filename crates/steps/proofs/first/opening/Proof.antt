@@ -31,7 +31,8 @@ returns-5 c =
 returns-6 : tie.Need-returns-6
 unfolding openingTests
 returns-6 c =
-    gate-goes _ _ _ _ _ (c .before .before .before .before .before .before .index-changes .ensures) (c .before .before .before .before .before .if3 .left) (omega arith) (
+    gate-goes _ _ _ _ _ (c .before .before .before .before .before .before .index-changes .ensures)
+    (c .before .before .before .before .before .if3 .left) (omega arith) (
     gate-goes _ _ _ _ _ (c .before .before .before .before .index-lock-keys .ensures) (c .before .before .before .if4 .left) (omega arith) (
     gate-goes _ _ _ _ _ (c .before .before .prepare-commit-record .ensures) (c .before .if5 .left) (omega arith) (
     c .run-prepare .ensures)))

@@ -23,7 +23,10 @@ unfolding activeFrom
 loop-holds c = search needs
 
 returns : tie.Need-returns Inv-loop μ-loop
-returns c = let e : length (activeFrom (c .before .before .before .before .args .active .now) (c .before .before .before .loop .i)) ≡ 0 = ap length (active-zero _ _ (c .before .before .loop-test .taken) (c .if1 .taken)) in omega arith
+returns c =
+    let e : length (activeFrom (c .before .before .before .before .args .active .now) (c .before .before .before .loop .i)) ≡ 0 =
+    ap length (active-zero _ _ (c .before .before .loop-test .taken) (c .if1 .taken)) in
+    omega arith
 
 loop-again : tie.Need-loop-again Inv-loop μ-loop
 loop-again c =
@@ -33,7 +36,9 @@ loop-again c =
     (omega arith, omega arith)
 
 returns-2 : tie.Need-returns-2 Inv-loop μ-loop
-returns-2 c = let e : length (activeFrom (c .before .before .args .active .now) (c .before .loop .i)) ≡ 0 = ap length (active-end _ _ (c .loop-test .left)) in omega arith
+returns-2 c =
+    let e : length (activeFrom (c .before .before .args .active .now) (c .before .loop .i)) ≡ 0 = ap length (active-end _ _ (c .loop-test .left)) in
+    omega arith
 
 pub active-count-spec : {M : Type 1} → statement M
 active-count-spec =

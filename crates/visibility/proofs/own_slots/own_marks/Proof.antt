@@ -25,14 +25,16 @@ loop-again : tie.Need-loop-again Inv-loop μ-loop
 loop-again c =
     let a = c .before .before .before .before .before .before .args in
     let i = c .before .before .before .before .before .loop .i in
-    let e = own-here (a .xmin .now) (atPlaces (a .seen .now)) (a .t .0) i (omega arith) (c .before .before .if1 .taken) (c .before .is-own .ensures) (c .if2 .taken) in
+    let e = own-here (a .xmin .now) (atPlaces (a .seen .now)) (a .t .0) i (omega arith) (c .before .before .if1 .taken)
+    (c .before .is-own .ensures) (c .if2 .taken) in
     (omega arith, rw e at (c .before .before .before .before .before .loop .inv .1))
 
 loop-again-2 : tie.Need-loop-again-2 Inv-loop μ-loop
 loop-again-2 c =
     let a = c .before .before .before .before .before .before .args in
     let i = c .before .before .before .before .before .loop .i in
-    let e = own-not (a .xmin .now) (atPlaces (a .seen .now)) (a .t .0) i (omega arith) (c .before .before .if1 .taken) (c .before .is-own .ensures) (c .if2 .left) in
+    let e = own-not (a .xmin .now) (atPlaces (a .seen .now)) (a .t .0) i (omega arith) (c .before .before .if1 .taken)
+    (c .before .is-own .ensures) (c .if2 .left) in
     (omega arith, rw e at (c .before .before .before .before .before .loop .inv .1))
 
 loop-again-3 : tie.Need-loop-again-3 Inv-loop μ-loop

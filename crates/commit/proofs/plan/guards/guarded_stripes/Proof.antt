@@ -29,13 +29,21 @@ loop-holds c = (omega arith, c .clipped .ensures, search needs, refl)
 
 loop-again : tie.Need-loop-again Inv-loop μ-loop
 loop-again c =
-    let long = index-reads-long (c .before .before .before .before .before .before .args .t1) (c .before .before .before .before .before .before .good .0) in
-    (omega arith, omega arith, search needs, sym (mark-next stripeRead _ _ _ _ (first-next _ _ _ noIndexRead (omega arith))) ∙ c .before .before .before .before .loop .inv .3)
+    let long = index-reads-long (c .before .before .before .before .before .before .args .t1) (c .before .before .before .before .before .before .good .0) in (
+      omega arith,
+      omega arith,
+      search needs,
+      sym (mark-next stripeRead _ _ _ _ (first-next _ _ _ noIndexRead (omega arith))) ∙ c .before .before .before .before .loop .inv .3,
+    )
 
 loop-again-2 : tie.Need-loop-again-2 Inv-loop μ-loop
 loop-again-2 c =
-    let long = index-reads-long (c .before .before .before .before .before .before .args .t1) (c .before .before .before .before .before .before .good .0) in
-    (omega arith, omega arith, omega arith, sym (mark-high stripeRead _ _ _ _ (first-next _ _ _ noIndexRead (omega arith)) (omega arith)) ∙ c .before .before .before .before .loop .inv .3)
+    let long = index-reads-long (c .before .before .before .before .before .before .args .t1) (c .before .before .before .before .before .before .good .0) in (
+      omega arith,
+      omega arith,
+      omega arith,
+      sym (mark-high stripeRead _ _ _ _ (first-next _ _ _ noIndexRead (omega arith)) (omega arith)) ∙ c .before .before .before .before .loop .inv .3,
+    )
 
 returns : tie.Need-returns Inv-loop μ-loop
 returns c =

@@ -16,7 +16,8 @@ use Rattle.commit.proofs.plan.guards.read_partitions.Tie as tie
 
 abbrev Inv-loop : tie.InvT-loop
 Inv-loop x q₀ n i₀ q i =
-    (i ≤ n) × (n ≡ min (x .«read_count») readLimit) × (markAll (map partitionRead (firstFrom (x .«read_count») (x .reads) i)) q ≡ markAll (map partitionRead (readsOf x)) q₀)
+    (i ≤ n) × (n ≡ min (x .«read_count») readLimit)
+    × (markAll (map partitionRead (firstFrom (x .«read_count») (x .reads) i)) q ≡ markAll (map partitionRead (readsOf x)) q₀)
 
 abbrev μ-loop : tie.MeasureT-loop
 μ-loop x q₀ n i₀ q i = n - i

@@ -27,14 +27,25 @@ loop-again : tie.Need-loop-again Inv-loop μ-loop
 loop-again c =
     let a = c .before .before .before .before .before .before .before .before .before .args in
     let long : length (a .t3) ≡ writeLimit = c .before .before .before .before .before .before .before .before .before .good .1 .1 .0 .1 .0 .1 in
-    let few = changes-to-few (atPlaces (a .key .now)) (flagsAtPlaces (a .has .now)) (a .t3) (a .count) (c .before .before .before .before .before .before .before .loop .i) in
-    (omega arith, omega arith, c .with-change .ensures _ (c .before .before .before .before .before .before .before .loop .inv .2) (omega arith) ∙ ap movesOf (sym (next-new _ _ (a .t3) (a .count) _ (omega arith) _ _ (c .before .before .before .before .value-at .ensures) (c .before .before .before .value-at2 .ensures) (sym (c .before .before .same-value .ensures) ∙ not-true _ (c .before .if1 .taken)))))
+    let few = changes-to-few (atPlaces (a .key .now)) (flagsAtPlaces (a .has .now)) (a .t3) (a .count)
+    (c .before .before .before .before .before .before .before .loop .i) in (
+      omega arith,
+      omega arith,
+      c .with-change .ensures _ (c .before .before .before .before .before .before .before .loop .inv .2) (omega arith)
+          ∙ ap movesOf (sym (next-new _ _ (a .t3) (a .count) _ (omega arith) _ _ (c .before .before .before .before .value-at .ensures)
+          (c .before .before .before .value-at2 .ensures) (sym (c .before .before .same-value .ensures) ∙ not-true _ (c .before .if1 .taken)))),
+    )
 
 loop-again-2 : tie.Need-loop-again-2 Inv-loop μ-loop
 loop-again-2 c =
     let a = c .before .before .before .before .before .before .before .before .args in
-    let long : length (a .t3) ≡ writeLimit = c .before .before .before .before .before .before .before .before .good .1 .1 .0 .1 .0 .1 in
-    (omega arith, omega arith, c .before .before .before .before .before .before .loop .inv .2 ∙ ap movesOf (sym (next-same _ _ (a .t3) (a .count) _ (omega arith) _ _ (c .before .before .before .value-at .ensures) (c .before .before .value-at2 .ensures) (sym (c .before .same-value .ensures) ∙ not-false _ (c .if1 .left)))))
+    let long : length (a .t3) ≡ writeLimit = c .before .before .before .before .before .before .before .before .good .1 .1 .0 .1 .0 .1 in (
+      omega arith,
+      omega arith,
+      c .before .before .before .before .before .before .loop .inv .2
+          ∙ ap movesOf (sym (next-same _ _ (a .t3) (a .count) _ (omega arith) _ _ (c .before .before .before .value-at .ensures)
+          (c .before .before .value-at2 .ensures) (sym (c .before .same-value .ensures) ∙ not-false _ (c .if1 .left)))),
+    )
 
 returns : tie.Need-returns Inv-loop μ-loop
 returns c =

@@ -25,13 +25,23 @@ loop-holds c = (omega arith, c .clipped .ensures, search needs, refl)
 
 loop-again : tie.Need-loop-again Inv-loop μ-loop
 loop-again c =
-    let long : length (c .before .before .before .before .before .before .args .t2) ≡ writeLimit = c .before .before .before .before .before .before .good .1 .0 .1 .0 .1 in
-    (omega arith, omega arith, search needs, sym (unmark-next newOf _ _ _ _ (first-next _ _ _ noWrite (omega arith))) ∙ c .before .before .before .before .loop .inv .3)
+    let long : length (c .before .before .before .before .before .before .args .t2) ≡ writeLimit =
+    c .before .before .before .before .before .before .good .1 .0 .1 .0 .1 in (
+      omega arith,
+      omega arith,
+      search needs,
+      sym (unmark-next newOf _ _ _ _ (first-next _ _ _ noWrite (omega arith))) ∙ c .before .before .before .before .loop .inv .3,
+    )
 
 loop-again-2 : tie.Need-loop-again-2 Inv-loop μ-loop
 loop-again-2 c =
-    let long : length (c .before .before .before .before .before .before .args .t2) ≡ writeLimit = c .before .before .before .before .before .before .good .1 .0 .1 .0 .1 in
-    (omega arith, omega arith, omega arith, sym (unmark-high newOf _ _ _ _ (first-next _ _ _ noWrite (omega arith)) (omega arith)) ∙ c .before .before .before .before .loop .inv .3)
+    let long : length (c .before .before .before .before .before .before .args .t2) ≡ writeLimit =
+    c .before .before .before .before .before .before .good .1 .0 .1 .0 .1 in (
+      omega arith,
+      omega arith,
+      omega arith,
+      sym (unmark-high newOf _ _ _ _ (first-next _ _ _ noWrite (omega arith)) (omega arith)) ∙ c .before .before .before .before .loop .inv .3,
+    )
 
 returns : tie.Need-returns Inv-loop μ-loop
 returns c =

@@ -17,12 +17,15 @@ returns-2 c =
 returns-3 : tie.Need-returns-3
 returns-3 c =
     let a = c .before .before .before .before .before .before .before .args in
-    λ p. rw (write-mark (a .t) (a .limit) (a .w) (omega arith) (c .before .before .before .before .if2 .left)) (adds-push (xmax-kept (a .w) (a .t) p) (c .before .push2 .ensures))
+    λ p. rw (write-mark (a .t) (a .limit) (a .w) (omega arith) (c .before .before .before .before .if2 .left))
+    (adds-push (xmax-kept (a .w) (a .t) p) (c .before .push2 .ensures))
 
 returns-4 : tie.Need-returns-4
 returns-4 c =
     let a = c .before .before .before .before .before .before .before .before .before .before .args in
-    λ p. rw (write-both (a .t) (a .limit) (a .w) (omega arith) (c .before .before .before .before .before .before .before .if2 .left)) (adds-then (adds-push (xmax-kept (a .w) (a .t) p) (c .before .before .before .before .push2 .ensures)) (adds-push (head-kept (a .w) p) (c .push3 .ensures)))
+    λ p. rw (write-both (a .t) (a .limit) (a .w) (omega arith) (c .before .before .before .before .before .before .before .if2 .left))
+    (adds-then (adds-push (xmax-kept (a .w) (a .t) p) (c .before .before .before .before .push2 .ensures))
+    (adds-push (head-kept (a .w) p) (c .push3 .ensures)))
 
 pub push-write-spec : {M : Type 1} → statement M
 push-write-spec =

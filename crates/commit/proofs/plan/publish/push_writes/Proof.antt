@@ -15,7 +15,8 @@ use Rattle.commit.proofs.plan.publish.push_writes.Tie as tie
 
 abbrev Inv-loop : tie.InvT-loop
 Inv-loop count t limit j₀ n at end k₀ left₀ i₀ j k left i =
-    (i ≤ end) × (end ≡ min count writeLimit) × (all plain (take count at) ≡ true → Pushing j₀ n (publishing t limit 0 (take count at)) (publishing t left i (take count at)) j k)
+    (i ≤ end) × (end ≡ min count writeLimit)
+    × (all plain (take count at) ≡ true → Pushing j₀ n (publishing t limit 0 (take count at)) (publishing t left i (take count at)) j k)
 
 abbrev μ-loop : tie.MeasureT-loop
 μ-loop count t limit j₀ n at end k₀ left₀ i₀ j k left i = end - i
@@ -26,8 +27,12 @@ loop-holds c = (omega arith, c .clipped .ensures, λ p. pushing-start _ _ _)
 loop-again : tie.Need-loop-again Inv-loop μ-loop
 loop-again c =
     let a = c .before .before .before .before .before .before .before .before .args in
-    let long : length (a .t1) ≡ writeLimit = c .before .before .before .before .before .before .before .before .good .0 .1 .0 .1 in
-    (omega arith, omega arith, λ p. push-one _ _ _ (a .count) (a .t1) p (omega arith) (c .before .before .before .before .before .before .loop .inv .2 p) (c .before .before .push-write .ensures) (c .before .size-of .ensures) (c .less .ensures))
+    let long : length (a .t1) ≡ writeLimit = c .before .before .before .before .before .before .before .before .good .0 .1 .0 .1 in (
+      omega arith,
+      omega arith,
+      λ p. push-one _ _ _ (a .count) (a .t1) p (omega arith) (c .before .before .before .before .before .before .loop .inv .2 p)
+          (c .before .before .push-write .ensures) (c .before .size-of .ensures) (c .less .ensures),
+    )
 
 returns : tie.Need-returns Inv-loop μ-loop
 returns c =

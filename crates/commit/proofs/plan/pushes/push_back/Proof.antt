@@ -28,8 +28,10 @@ returns : tie.Need-returns Inv-loop μ-loop
 returns c = λ b w. pushing-end (c .before .before .loop .inv .1 b w) (back-none _ _ _ _ (omega arith))
 
 loop-again : tie.Need-loop-again Inv-loop μ-loop
-loop-again c =
-    (omega arith, λ b w. push-before _ _ _ _ (c .before .before .before .before .before .loop .inv .1 b w) (omega arith) (omega arith) (omega arith) b w (c .push .ensures))
+loop-again c = (
+  omega arith,
+  λ b w. push-before _ _ _ _ (c .before .before .before .before .before .loop .inv .1 b w) (omega arith) (omega arith) (omega arith) b w (c .push .ensures),
+)
 
 returns-2 : tie.Need-returns-2 Inv-loop μ-loop
 returns-2 c = λ b w. pushing-end (c .before .loop .inv .1 b w) (back-end _ _ _ _ (omega arith))

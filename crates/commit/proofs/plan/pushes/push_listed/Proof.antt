@@ -26,7 +26,8 @@ returns : tie.Need-returns Inv-loop μ-loop
 returns c = λ b w. pushing-end (c .before .before .loop .inv .1 b w) (listed-none _ _ _ _ (omega arith))
 
 loop-again : tie.Need-loop-again Inv-loop μ-loop
-loop-again c = (omega arith, λ b w. push-listed _ _ _ _ (c .before .before .before .before .before .loop .inv .1 b w) (omega arith) (omega arith) b w (c .push .ensures))
+loop-again c =
+    (omega arith, λ b w. push-listed _ _ _ _ (c .before .before .before .before .before .loop .inv .1 b w) (omega arith) (omega arith) b w (c .push .ensures))
 
 returns-2 : tie.Need-returns-2 Inv-loop μ-loop
 returns-2 c = λ b w. pushing-end (c .before .loop .inv .1 b w) (listed-end _ _ _ _ (omega arith))

@@ -8,7 +8,9 @@ use Rattle.commit.proofs.plan.run.plan_of.Tie as tie
 returns : tie.Need-returns
 returns c =
     let a = c .before .before .before .before .before .before .before .before .args in
-    plan-from (a .x) (atPlaces (a .key .now)) (atPlaces (a .xmin .now)) (atPlaces (a .seen .now)) (flagsAtPlaces (a .has .now)) (a .at) (a .count) (c .before .before .before .before .before .before .before .index-changes .ensures) (c .before .before .before .guarded-stripes .ensures) (c .before .before .guarded-partitions .ensures) (c .before .own-marks .ensures) (c .recycled-marks .ensures)
+    plan-from (a .x) (atPlaces (a .key .now)) (atPlaces (a .xmin .now)) (atPlaces (a .seen .now)) (flagsAtPlaces (a .has .now)) (a .at) (a .count)
+    (c .before .before .before .before .before .before .before .index-changes .ensures) (c .before .before .before .guarded-stripes .ensures)
+    (c .before .before .guarded-partitions .ensures) (c .before .own-marks .ensures) (c .recycled-marks .ensures)
 
 pub plan-of-spec : {M : Type 1} → statement M
 plan-of-spec =

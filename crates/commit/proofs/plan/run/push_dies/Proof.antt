@@ -8,7 +8,9 @@ use Rattle.commit.proofs.plan.run.push_dies.Statement.{statement}
 use Rattle.commit.proofs.plan.run.push_dies.Tie as tie
 
 returns : tie.Need-returns
-returns c = λ S x logged plan h. dies-here h _ (sym (c .before .before .before .before .before .aborts-at .ensures) ∙ c .before .before .before .before .if1 .taken) (c .abort-or-poison .ensures S x logged plan (own-is h) (txid-is h) (abort-is S x logged plan (h .strikes)) (h .long))
+returns c =
+    λ S x logged plan h. dies-here h _ (sym (c .before .before .before .before .before .aborts-at .ensures) ∙ c .before .before .before .before .if1 .taken)
+    (c .abort-or-poison .ensures S x logged plan (own-is h) (txid-is h) (abort-is S x logged plan (h .strikes)) (h .long))
 
 returns-2 : tie.Need-returns-2
 returns-2 c = λ S x logged plan h. rw (dies-not S x logged plan _ (sym (c .before .aborts-at .ensures) ∙ c .if1 .left)) (adds-none _ _)

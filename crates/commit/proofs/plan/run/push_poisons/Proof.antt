@@ -6,7 +6,8 @@ use Rattle.commit.proofs.plan.run.push_poisons.Statement.{statement}
 use Rattle.commit.proofs.plan.run.push_poisons.Tie as tie
 
 returns : tie.Need-returns
-returns c = poisons-called (c .before .before .before .args .bad) (c .before .before .before .args .t) _ (c .before .before .match .keys1) (c .poison-unless .ensures)
+returns c =
+    poisons-called (c .before .before .before .args .bad) (c .before .before .before .args .t) _ (c .before .before .match .keys1) (c .poison-unless .ensures)
 
 returns-2 : tie.Need-returns-2
 returns-2 c = rw (c .before .before .match .keys2) (c .push-poison .ensures)

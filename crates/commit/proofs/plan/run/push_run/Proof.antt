@@ -7,7 +7,13 @@ use Rattle.commit.proofs.plan.run.push_run.Tie as tie
 
 returns : tie.Need-returns
 returns c =
-    λ S x logged plan h. run-put h _ (c .before .before .before .before .before .before .before .before .before .before .before .before .push-taken .ensures S x logged plan h) (c .before .before .before .before .before .before .before .before .before .before .push-passed .ensures S x logged plan h) (c .before .before .before .before .before .before .before .before .push-poisons .ensures) (c .before .before .before .before .before .before .push-undoes .ensures S x logged plan h) (c .before .before .before .before .push-drops .ensures S x logged plan h) (c .before .before .push-lets .ensures S x logged plan (stripes-are h) (partitions-are h) (h .fits)) (c .push-dies .ensures S x logged plan h)
+    λ S x logged plan h.
+    run-put h _ (c .before .before .before .before .before .before .before .before .before .before .before .before .push-taken .ensures S x logged plan h)
+    (c .before .before .before .before .before .before .before .before .before .before .push-passed .ensures S x logged plan h)
+    (c .before .before .before .before .before .before .before .before .push-poisons .ensures)
+    (c .before .before .before .before .before .before .push-undoes .ensures S x logged plan h)
+    (c .before .before .before .before .push-drops .ensures S x logged plan h)
+    (c .before .before .push-lets .ensures S x logged plan (stripes-are h) (partitions-are h) (h .fits)) (c .push-dies .ensures S x logged plan h)
 
 pub push-run-spec : {M : Type 1} → statement M
 push-run-spec =

@@ -43,7 +43,11 @@ returns-2 c =
     let e : c .before .loop .i ≡ plan .count = omega arith in
     let held = rw e at (c .before .loop .inv .1) in
     let some : plan .count ≡ min (plan .count) faultLimit = omega arith in
-    rw (lt-ltb (plan .count) faultLimit (c .before .before .if1 .left), add-one (plan .count), more-room faultLimit (plan .count) (plan .count) noFault (s .args .f) (plan .faults) _ long some held (omega arith))
+    rw (
+      lt-ltb (plan .count) faultLimit (c .before .before .if1 .left),
+      add-one (plan .count),
+      more-room faultLimit (plan .count) (plan .count) noFault (s .args .f) (plan .faults) _ long some held (omega arith),
+    )
 
 pub with-fault-spec : {M : Type 1} → statement M
 with-fault-spec =

@@ -6,7 +6,9 @@ use Rattle.replay_core.proofs.turn.lines.commit_line.Statement.{stateme
 use Rattle.replay_core.proofs.turn.lines.commit_line.Tie as tie
 
 returns : tie.Need-returns
-returns c = let a = c .before .before .before .args in c .answered .ensures ∙ committed (a .s) (a .x) (a .plan) (a .logged) (a .cut) (c .before .before .commit .ensures) (c .before .none .ensures)
+returns c =
+    let a = c .before .before .before .args in
+    c .answered .ensures ∙ committed (a .s) (a .x) (a .plan) (a .logged) (a .cut) (c .before .before .commit .ensures) (c .before .none .ensures)
 
 pub commit-line-spec : {M : Type 1} → statement M
 commit-line-spec = tie.close (tie.spec (λ c κs. search needs) (λ c κs. search needs) (λ c κs. search needs) returns)

@@ -6,7 +6,9 @@ use Rattle.replay_core.proofs.turn.lines.write_line.Statement.{statemen
 use Rattle.replay_core.proofs.turn.lines.write_line.Tie as tie
 
 returns : tie.Need-returns
-returns c = let a = c .before .before .before .args in c .answered .ensures ∙ wrote (a .s) (a .x) (a .plan) (a .row .0) (a .v) (c .before .before .write .ensures)
+returns c =
+    let a = c .before .before .before .args in
+    c .answered .ensures ∙ wrote (a .s) (a .x) (a .plan) (a .row .0) (a .v) (c .before .before .write .ensures)
 
 pub write-line-spec : {M : Type 1} → statement M
 write-line-spec = tie.close (tie.spec (λ c κs. search needs) (λ c. search needs) (λ c κs. search needs) returns)
