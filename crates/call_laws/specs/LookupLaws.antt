@@ -37,7 +37,8 @@ use Rattle.call_laws.specs.StampLaws.{stripes-few, stamps-apart}
 abbrev pub stampOf : Store → ℕ → ℕ
 stampOf S k = getD (S .stamps) (stripeOf k) 0
 
--- the rows that a lookup finds: rising, below the limit, and exactly the candidates ("rows from postings of the key and own writes") whose read value is the key
+-- the rows that a lookup finds: rising, below the limit, and exactly the candidates ("rows from postings of the key and own writes") whose
+-- read value is the key
 pub record Finds (S : Store) (x : Tx) (k : ℕ) (L : ℕ → List ℕ) (found : List ℕ) : Type 0 where
   pub rise : rising 0 found ≡ true
   pub below : (r : ℕ) → memb r found ≡ true → r < rows
