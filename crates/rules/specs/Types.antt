@@ -1,4 +1,4 @@
--- The types that the crate `types` declares, passed on under one name.
+-- The types that the crate `records` declares, passed on under one name.
 pub use Rattle.records.specs.declared.Store.{Store}
 pub use Rattle.records.specs.declared.Tx.{Tx}
 pub use Rattle.records.specs.declared.Txid.{Txid}
