@@ -1,6 +1,8 @@
-//! Finds the archive that `rt staticlib replay_core` writes, and says what to do where it can't be linked.
+//! Finds the archive that `rt staticlib replay_core` writes, and says what to do where it can't be linked;
+//! takes the numbers' texts from `docs/NUMBERS.md`.
 
 use std::env;
+use std::fs;
 use std::path::{Path, PathBuf};
 
 fn main() {
@@ -11,6 +13,9 @@ fn main() {
             println!("cargo::rustc-link-lib=static=replay_core");
         }
         Err(why) => println!("cargo::error={why}"),
+    }
+    if let Err(why) = write_numbers() {
+        println!("cargo::error={why}");
     }
 }
 
@@ -36,4 +41,38 @@ fn archive_dir() -> Result<PathBuf, String> {
         ));
     }
     Ok(dir)
+}
+
+/// Writes the table's texts as a list of pairs, in the order of their numbers.
+fn write_numbers() -> Result<(), String> {
+    let page = Path::new(env!("CARGO_MANIFEST_DIR")).join("../../docs/NUMBERS.md");
+    println!("cargo::rerun-if-changed={}", page.display());
+    let text = fs::read_to_string(&page).map_err(|why| format!("{}: {why}", page.display()))?;
+    let rows: Vec<_> = text.lines().filter_map(row).collect();
+    if rows.len() != 29 || (0..).zip(&rows).any(|(number, row)| row.0 != number) {
+        return Err(format!(
+            "{} doesn't have a row for each number from 0 to 28, in order",
+            page.display()
+        ));
+    }
+    let pairs: Vec<_> = rows
+        .iter()
+        .map(|(_, meaning, advice)| (meaning, advice))
+        .collect();
+    let out = Path::new(&env::var_os("OUT_DIR").expect("cargo names a folder")).join("numbers.rs");
+    fs::write(&out, format!("&{pairs:?}")).map_err(|why| format!("{}: {why}", out.display()))
+}
+
+/// A row `| number | meaning | what to do |` of the page's table.
+fn row(line: &str) -> Option<(u8, &str, &str)> {
+    let cells: Vec<_> = line
+        .strip_prefix('|')?
+        .strip_suffix('|')?
+        .split('|')
+        .map(str::trim)
+        .collect();
+    let &[number, meaning, advice] = cells.as_slice() else {
+        return None;
+    };
+    Some((number.parse().ok()?, meaning, advice))
 }

@@ -4,7 +4,7 @@ use std::fs;
 use std::path::Path;
 use std::thread;
 
-use slack::{replay, replay_into, room};
+use slack::{Answer, Refusal, Short, answers, replay, replay_into, room};
 
 /// The example of document 01.
 const SCRIPT: &[u8] = b"B\t0\nW\t0\t3\t35\nC\t0\tu\nB\t0\nR\t0\t3\nC\t0\tl\n";
@@ -40,11 +40,18 @@ fn the_program_s_scripts() {
 
 #[test]
 fn the_scripts_among_the_examples() {
-    for name in ["morning", "conflict", "power-cut"] {
-        let script = file(&format!("examples/{name}.script"));
-        let answers = file(&format!("examples/{name}.out"));
-        assert_eq!(replay(&script), answers, "{name}");
+    let folder = Path::new(env!("CARGO_MANIFEST_DIR")).join("../../examples");
+    let mut count = 0;
+    for entry in fs::read_dir(folder).expect("the examples") {
+        let path = entry.expect("an example").path();
+        if path.extension().is_some_and(|end| end == "script") {
+            let script = fs::read(&path).expect("a script");
+            let answers = fs::read(path.with_extension("out")).expect("its answers");
+            assert!(replay(&script) == answers, "{}", path.display());
+            count += 1;
+        }
     }
+    assert!(count >= 11, "{count} scripts");
 }
 
 #[test]
@@ -88,11 +95,111 @@ fn the_room_is_63_bytes_a_line_feed_and_63_more() {
 #[test]
 fn a_buffer_with_the_room_and_one_byte_too_short() {
     let mut out = vec![b'#'; room(SCRIPT)];
-    assert_eq!(replay_into(SCRIPT, &mut out), ANSWERS.len());
+    assert_eq!(replay_into(SCRIPT, &mut out), Ok(ANSWERS.len()));
     assert_eq!(&out[..ANSWERS.len()], ANSWERS);
-    let mut short = vec![b'#'; room(SCRIPT) - 1];
-    assert_eq!(replay_into(SCRIPT, &mut short), 0);
-    assert_eq!(replay_into(SCRIPT, &mut []), 0);
+    assert!(out[ANSWERS.len()..].iter().all(|&byte| byte == b'#'));
+    let room = room(SCRIPT);
+    let mut short = vec![b'#'; room - 1];
+    let why = Short {
+        room,
+        len: room - 1,
+    };
+    assert_eq!(replay_into(SCRIPT, &mut short), Err(why));
+    assert!(short.iter().all(|&byte| byte == b'#'));
+    assert_eq!(replay_into(SCRIPT, &mut []), Err(Short { room, len: 0 }));
+    assert_eq!(
+        why.to_string(),
+        "a buffer of 440 bytes, where 441 are asked for"
+    );
+}
+
+/// An empty script has no answers, and a short buffer is told from it.
+#[test]
+fn an_empty_script_into_a_buffer() {
+    assert_eq!(replay_into(b"", &mut [0; 63]), Ok(0));
+    assert_eq!(
+        replay_into(b"", &mut [0; 62]),
+        Err(Short { room: 63, len: 62 })
+    );
+}
+
+#[test]
+fn the_vector_is_no_longer_than_the_answers() {
+    let answers = replay(SCRIPT);
+    assert_eq!(answers.capacity(), answers.len());
+}
+
+#[test]
+fn typed_answers() {
+    let script = b"B\t0\nR\t0\t3\nR\t0\t64\nW\t0\t3\t35\nC\t0\tu\t4";
+    let mut typed = answers(script);
+    assert_eq!(typed.len(), 5);
+    let first = Answer {
+        line: 1,
+        number: 0,
+        value: Some(1),
+    };
+    assert_eq!(typed.next(), Some(first));
+    assert_eq!(typed.len(), 4);
+    let rest: Vec<_> = typed
+        .by_ref()
+        .map(|a| (a.line, a.number, a.value))
+        .collect();
+    assert_eq!(
+        rest,
+        [
+            (2, 0, None),
+            (3, 23, Some(0)),
+            (4, 0, Some(1)),
+            (5, 18, Some(4))
+        ]
+    );
+    assert_eq!(typed.next(), None);
+    assert_eq!(answers(b"").next(), None);
+}
+
+/// Written again, the typed answers are the text, for all that the gate runs.
+#[test]
+fn typed_answers_are_the_text() {
+    let script = file("crates/replay/stdin");
+    let text: String = answers(&script)
+        .map(|answer| format!("{answer}\n"))
+        .collect();
+    assert!(text.as_bytes() == replay(&script));
+    assert_eq!(answers(&script).count(), answers(&script).len());
+}
+
+#[test]
+fn a_result_is_the_value_or_the_refusal() {
+    let results: Vec<_> = answers(b"B\t0\nR\t0\t3\nR\t0\t64")
+        .map(|a| a.result())
+        .collect();
+    assert_eq!(results[..2], [Ok(Some(1)), Ok(None)]);
+    assert_eq!(results[2].unwrap_err().number(), 23);
+}
+
+/// Each number's texts are those of the page, cell by cell.
+#[test]
+fn the_refusals_are_those_of_the_page() {
+    let page = String::from_utf8(file("docs/NUMBERS.md")).unwrap();
+    for number in 1..=28 {
+        let refusal = Refusal::new(number).expect("a refusal");
+        let row = format!(
+            "| {number} | {} | {} |",
+            refusal.meaning(),
+            refusal.advice()
+        );
+        assert!(page.lines().any(|line| line == row), "{row}");
+        assert!(!refusal.meaning().is_empty() && !refusal.advice().is_empty());
+        let shown = refusal.to_string();
+        assert_eq!(
+            shown,
+            format!("{number}: {} {}", refusal.meaning(), refusal.advice())
+        );
+    }
+    assert_eq!(Refusal::new(0), None);
+    assert_eq!(Refusal::new(29), None);
+    assert_eq!(Refusal::new(255), None);
 }
 
 #[test]

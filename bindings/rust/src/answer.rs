@@ -1,0 +1,103 @@
+//! The answers' text taken apart.
+
+use std::fmt;
+use std::iter::FusedIterator;
+
+use crate::Refusal;
+
+/// What a script's line was answered: its [`Display`](fmt::Display) is the line that `./run replay` writes, without
+/// the line feed.
+#[derive(Clone, Copy, Debug, PartialEq, Eq, Hash)]
+pub struct Answer {
+    /// The line's number in the script, from 1.
+    pub line: u64,
+    /// 0 where the call did what was asked, else the refusal's number, 1 to 28.
+    pub number: u8,
+    /// What the line asks for: the txid (B), the key (R; none where the row shows none), the slot (W),
+    /// the number of rows (L), the number of stores (C, refused or not); 0 for any other line or refusal.
+    pub value: Option<u64>,
+}
+
+impl Answer {
+    /// The value, or why the call was refused. A refused commit's stores are in `value` alone.
+    ///
+    /// # Panics
+    ///
+    /// Where `number` is above 28, which no replay answers.
+    pub fn result(&self) -> Result<Option<u64>, Refusal> {
+        match self.number {
+            0 => Ok(self.value),
+            number => Err(Refusal::new(number).expect("a number is at most 28")),
+        }
+    }
+}
+
+impl fmt::Display for Answer {
+    fn fmt(&self, f: &mut fmt::Formatter<'_>) -> fmt::Result {
+        write!(f, "{}\t{}\t", self.line, self.number)?;
+        match self.value {
+            Some(value) => write!(f, "{value}"),
+            None => f.write_str("-"),
+        }
+    }
+}
+
+/// A script's answers in order, one for each line; made by [`answers`](crate::answers).
+#[derive(Clone, Debug)]
+pub struct Answers {
+    text: Vec<u8>,
+    at: usize,
+}
+
+impl Answers {
+    pub(crate) fn of(text: Vec<u8>) -> Answers {
+        Answers { text, at: 0 }
+    }
+
+    /// The bytes up to `end`, which is passed over.
+    fn field(&mut self, end: u8) -> &str {
+        let rest = &self.text[self.at..];
+        let count = rest
+            .iter()
+            .position(|&byte| byte == end)
+            .expect("an answer has three fields");
+        self.at += count + 1;
+        std::str::from_utf8(&rest[..count]).expect("an answer is ASCII")
+    }
+}
+
+impl Iterator for Answers {
+    type Item = Answer;
+
+    fn next(&mut self) -> Option<Answer> {
+        if self.at == self.text.len() {
+            return None;
+        }
+        let line = self
+            .field(b'\t')
+            .parse()
+            .expect("a line's number has 64 bits");
+        let number = self.field(b'\t').parse().expect("a number is at most 28");
+        let value = match self.field(b'\n') {
+            "-" => None,
+            digits => Some(digits.parse().expect("a value has 64 bits")),
+        };
+        Some(Answer {
+            line,
+            number,
+            value,
+        })
+    }
+
+    fn size_hint(&self) -> (usize, Option<usize>) {
+        let left = self.text[self.at..]
+            .iter()
+            .filter(|&&byte| byte == b'\n')
+            .count();
+        (left, Some(left))
+    }
+}
+
+impl ExactSizeIterator for Answers {}
+
+impl FusedIterator for Answers {}
