@@ -1,5 +1,5 @@
--- The definitions, in document 01's order, and its worked examples. Limits and empty values are in the crate `records`, the words in which
--- the demands are put in `statements`, laws in `basic_laws` and `run_laws`.
+-- The definitions, in document 01's order; nothing is proved here. Limits and empty values are in the crate `records`, the words in which
+-- the demands and the paper's sentences are put in `statements`, what holds the definitions to those words in `sentences` and the crates of laws.
 -- passed on, and plain things on lists
 pub mod Types
 pub mod Lists
@@ -25,6 +25,5 @@ pub mod Answer
 -- "Replay"
 pub mod Replay
 pub mod Script
--- "Mornings at a limit" and the example of "Replay", computed
+-- every definition opened, for laws that compute
 pub mod Computing
-pub mod Mornings

@@ -1,1 +1,1 @@
-// Nothing runs here and nothing is proved: the words in which the three demands are put, and the demands themselves, as types, stand in specs/.
+// Nothing runs here and nothing is proved: the paper's sentences and the three demands, put in words, as types, stand in specs/.

@@ -1,0 +1,1 @@
+-- "Other calls": begin, write, row lock, abort and recovery; what is emptied and what is kept.

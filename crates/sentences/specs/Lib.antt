@@ -1,0 +1,13 @@
+-- What holds the definitions to document 01: for each sentence a law in words, proved straight from the definition's text, so that a definition
+-- that says something else fails here. The words are in the crate `statements`. What only a whole run shows stands in the crates of laws above.
+-- "Store and transaction"; what one store changes
+pub mod StoreSays
+-- "Other calls" and recovery; what a transaction sees and reads
+pub mod CallsSay
+pub mod ReadsSay
+-- "Steps and faults"
+pub mod StepsSay
+-- "Replay"
+pub mod ReplaySays
+-- "Mornings at a limit" and the example of "Replay", computed
+pub mod Mornings

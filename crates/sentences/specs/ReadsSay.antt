@@ -1,0 +1,1 @@
+-- "Other calls": what a transaction sees, reads and records.

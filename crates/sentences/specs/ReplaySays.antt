@@ -1,0 +1,1 @@
+-- "Replay": which bytes are a line of which form, what each line does and what it prints.

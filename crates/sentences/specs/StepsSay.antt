@@ -1,0 +1,1 @@
+-- "Steps and faults": final writes, changes, guards, publication, recycling, stamps; what is in each list, and in which order.

@@ -1,0 +1,1 @@
+-- "Store and transaction", and what one store of a commit changes: each sentence, proved of its definition.

@@ -1,0 +1,1 @@
+-- "Other calls" in words: begin, write, row lock, abort, recovery; what is emptied and what is kept.

@@ -1,0 +1,1 @@
+-- "Other calls" in words: what a transaction sees, reads and records.

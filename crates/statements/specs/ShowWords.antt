@@ -1,0 +1,1 @@
+-- What a dive team sees: a transaction begun now reads each row's value, and looks up the rows of a key.

@@ -1,0 +1,1 @@
+-- "Steps and faults" in words: final writes, changes, guards, publication, recycling, stamps; what is in each list, and in which order.

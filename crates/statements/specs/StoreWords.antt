@@ -1,0 +1,1 @@
+-- "Store and transaction" in words, and what one store of a commit changes.
