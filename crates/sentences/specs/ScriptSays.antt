@@ -1,0 +1,178 @@
+-- "Replay": which bytes are a line of which form, and which lines a script has.
+use mathlib.Core.Path.{_≡_, refl, sym, ap, subst, _∙_}
+use mathlib.Core.Bool.{Bool, true, false, not, cond, _&&_}
+use mathlib.Core.List.{List, [], _∷_, _++_, map}
+use mathlib.Core.Logic.{_↔_, _⊎_, inl, inr}
+use Prim.Native.Nat.{ℕ, suc, _+_, _-_, _*_, _^_, _<_, _≤_}
+use native.Mathlib.Nat.{pow-suc}
+use native.Mathlib.Omega.{arith}
+use lib.Dec.{eqb, ltb, leb}
+use lib.ListN.{length, getD, drop}
+use borrow.Author.Tests.{ltb-true, leb-true, eqb-true, eqb-false, lt-ltb, le-leb, eq-eqb, ne-eqb, not-true}
+use Rattle.records.specs.Limits.{keyEnd, placeLimit}
+use Rattle.rules.specs.Lists.{all, memb}
+use Rattle.rules.specs.Types.{Value, Absent, Key, Uncut, After}
+use Rattle.rules.specs.Replay.{Line, lineB, lineR, lineW, lineL, lineK, lineA, lineC, lineF, lineV, lineBad}
+use Rattle.rules.specs.Script.{onFirst, split, linesIn, isDigit, valueOf, isNumber, number, place, is, value, mode, letter, form, lineOf, parse}
+use Rattle.basic_laws.specs.Cases.{by, clash, and-true, or-false, or-neither}
+use Rattle.basic_laws.specs.Members.{all-at, at-all, mem-at}
+use Rattle.statements.specs.ReplayWords.{Bytes, worth, Decimal, Number, Place, KeyOr, Mode, Letter, tabbed, IsForm, Means, LinesOf, Each, IsScript}
+
+-- NUMBERS
+
+-- digits read from the left are worth their powers of ten
+value-worth : (v : ℕ) (w : Bytes) → valueOf v w ≡ v * 10 ^ length w + worth w
+value-worth v [] = omega arith
+value-worth v (b ∷ w) = value-worth (v * 10 + (b - 48)) w ∙ rw (pow-suc 10 (length w)) (omega arith)
+
+worth-value : (w : Bytes) → valueOf 0 w ≡ worth w
+worth-value w = value-worth 0 w ∙ omega arith
+
+digit : (b : ℕ) → isDigit b ≡ true → (48 ≤ b) × (b ≤ 57)
+digit b d = let t = and-true (leb 48 b) (leb b 57) d in (leb-true 48 b (t .0), leb-true b 57 (t .1))
+
+is-digit : (b : ℕ) → (48 ≤ b) × (b ≤ 57) → isDigit b ≡ true
+is-digit b d = rw (le-leb 48 b (d .0), le-leb b 57 (d .1))
+
+all-digits : (w : Bytes) → ((j : ℕ) → j < length w → (48 ≤ getD w j 0) × (getD w j 0 ≤ 57)) → all isDigit w ≡ true
+all-digits w h = at-all isDigit w 0 (λ j l. is-digit (getD w j 0) (h j l))
+
+digits-all : (w : Bytes) → all isDigit w ≡ true → (j : ℕ) → j < length w → (48 ≤ getD w j 0) × (getD w j 0 ≤ 57)
+digits-all w a j l = digit (getD w j 0) (all-at isDigit w a j 0 l)
+
+-- "Numbers are decimal, without leading zeros, at most 32 bits."
+is-number : (w : Bytes) → isNumber w ≡ true → Number (valueOf 0 w) w
+is-number [] e = clash {b = false} e refl
+is-number (b ∷ []) e =
+    let d = digit b e in
+    (record {
+      some = omega arith;
+      digits = digits-all (b ∷ []) (rw e);
+      unpadded = λ z. refl;
+      value = sym (worth-value (b ∷ []));
+    }, omega arith)
+is-number (b ∷ c ∷ w) e =
+    let t = and-true (all isDigit (b ∷ c ∷ w) && not (eqb b 48)) (ltb (valueOf 0 (b ∷ c ∷ w)) keyEnd) e in
+    let u = and-true (all isDigit (b ∷ c ∷ w)) (not (eqb b 48)) (t .0) in
+    (record {
+      some = omega arith;
+      digits = digits-all (b ∷ c ∷ w) (u .0);
+      unpadded = λ z. absurd (eqb-false b 48 (not-true _ (u .1)) z);
+      value = sym (worth-value (b ∷ c ∷ w));
+    }, ltb-true _ _ (t .1))
+
+number-is : (n : ℕ) (w : Bytes) → Number n w → (isNumber w ≡ true) × (valueOf 0 w ≡ n)
+number-is n [] h = absurd (omega (arith, h .0 .some))
+number-is n (b ∷ []) h = (is-digit b (h .0 .digits 0 (omega arith)), worth-value (b ∷ []) ∙ h .0 .value)
+number-is n (b ∷ c ∷ w) h =
+    let v : valueOf 0 (b ∷ c ∷ w) ≡ n = worth-value (b ∷ c ∷ w) ∙ h .0 .value in
+    let z : b ≡ 48 → ⊥ = λ z. omega (arith, h .0 .unpadded z) in
+    (rw (all-digits (b ∷ c ∷ w) (h .0 .digits), ne-eqb b 48 z, lt-ltb (valueOf 0 (b ∷ c ∷ w)) keyEnd (omega (arith, h .1))), v)
+
+-- FIELDS
+
+-- a field that has to be a number, a place, a value, a mode, a letter: it is one, and the line goes on with it, or the line is bad
+is-byte : (b : ℕ) (w : Bytes) → is b w ≡ true → w ≡ b ∷ []
+is-byte b [] e = clash {b = false} e refl
+is-byte b (c ∷ []) e = rw (eqb-true c b e)
+is-byte b (c ∷ d ∷ w) e = clash {b = false} e refl
+
+module _ (l : Line) {A : Type 0} where
+  number-out : (w : Bytes) (f : ℕ → Line) → number w f ≡ l → ((n : ℕ) → Number n w → f n ≡ l → A ⊎ (l ≡ lineBad)) → A ⊎ (l ≡ lineBad)
+  number-out w f e k = by (isNumber w) (λ t. k (valueOf 0 w) (is-number w t) (rw t at e)) (λ t. inr (sym (rw t at e)))
+
+  place-out : (w : Bytes) (f : ℕ → Line) → place w f ≡ l → ((i : ℕ) → Place i w → f i ≡ l → A ⊎ (l ≡ lineBad)) → A ⊎ (l ≡ lineBad)
+  place-out w f e k =
+      by (isNumber w && ltb (valueOf 0 w) placeLimit)
+      (λ t. let d = and-true (isNumber w) (ltb (valueOf 0 w) placeLimit) t in
+      let h : valueOf 0 w < 16 = ltb-true _ _ (d .1) in
+      k (valueOf 0 w) (is-number w (d .0) .0, omega arith) (rw t at e))
+      (λ t. inr (sym (rw t at e)))
+
+  value-out : (w : Bytes) (f : Value → Line) → value w f ≡ l → ((v : Value) → KeyOr v w → f v ≡ l → A ⊎ (l ≡ lineBad)) → A ⊎ (l ≡ lineBad)
+  value-out w f e k =
+      by (is 45 w)
+      (λ t. k Absent (is-byte 45 w t) (rw t at e))
+      (λ t. number-out w (λ n. f (Key n)) (rw t at e) (λ n h g. k (Key n) h g))
+
+  mode-out : (w : Bytes) (f : Bool → Line) → mode w f ≡ l → ((m : Bool) → Mode m w → f m ≡ l → A ⊎ (l ≡ lineBad)) → A ⊎ (l ≡ lineBad)
+  mode-out w f e k =
+      by (is 117 w)
+      (λ t. k false (is-byte 117 w t) (rw t at e))
+      (λ t. by (is 108 w) (λ u. k true (is-byte 108 w u) (rw (t, u) at e)) (λ u. inr (sym (rw (t, u) at e))))
+
+  letter-out : (w : Bytes) (f : ℕ → Line) → letter w f ≡ l → ((b : ℕ) → Letter b w → f b ≡ l → A ⊎ (l ≡ lineBad)) → A ⊎ (l ≡ lineBad)
+  letter-out [] f e k = inr (sym e)
+  letter-out (b ∷ []) f e k =
+      by (leb 65 b && leb b 90)
+      (λ t. let d = and-true (leb 65 b) (leb b 90) t in k b (refl, leb-true _ _ (d .0), leb-true _ _ (d .1)) (rw t at e))
+      (λ t. inr (sym (rw t at e)))
+  letter-out (b ∷ c ∷ w) f e k = inr (sym e)
+
+-- the way back
+number-back : (n : ℕ) (w : Bytes) (f : ℕ → Line) → Number n w → number w f ≡ f n
+number-back n w f h = let r = number-is n w h in rw (r .0, r .1)
+
+place-back : (i : ℕ) (w : Bytes) (f : ℕ → Line) → Place i w → place w f ≡ f i
+place-back i w f h =
+    let r = number-is i w (h .0, omega (arith, h .1)) in
+    rw (r .0, r .1, lt-ltb i placeLimit (omega (arith, h .1)))
+
+no-dash : (n : ℕ) (w : Bytes) → Decimal n w → is 45 w ≡ false
+no-dash n [] h = refl
+no-dash n (b ∷ []) h = ne-eqb b 45 (λ z. omega (arith, h .digits 0 (omega arith)))
+no-dash n (b ∷ c ∷ w) h = refl
+
+value-back : (v : Value) (w : Bytes) (f : Value → Line) → KeyOr v w → value w f ≡ f v
+value-back Absent w f h = rw h
+value-back (Key k) w f h = rw (no-dash k w (h .0)) (number-back k w (λ n. f (Key n)) h)
+
+mode-back : (m : Bool) (w : Bytes) (f : Bool → Line) → Mode m w → mode w f ≡ f m
+mode-back false w f h = rw h
+mode-back true w f h = rw h
+
+letter-back : (b : ℕ) (w : Bytes) (f : ℕ → Line) → Letter b w → letter w f ≡ f b
+letter-back b w f h = rw (h .0, le-leb 65 b (h .1), le-leb b 90 (h .2))
+
+-- TABS
+
+-- what was split, each part after a tab
+first-after : (b : ℕ) (ws : List Bytes) (bs : Bytes) → tabbed ws ≡ 9 ∷ bs → tabbed (onFirst b ws) ≡ 9 ∷ b ∷ bs
+first-after b [] bs e = absurd (omega (arith, ap length e))
+first-after b (w ∷ ws) bs e = ap (λ r. 9 ∷ b ∷ r) (ap (drop 1) e)
+
+tabbed-split : (w : Bytes) → tabbed (split 9 w) ≡ 9 ∷ w
+tabbed-split [] = refl
+tabbed-split (b ∷ w) =
+    by (eqb b 9)
+    (λ t. rw t (ap (λ r. 9 ∷ r) (tabbed-split w) ∙ ap (λ c. 9 ∷ c ∷ w) (sym (eqb-true b 9 t))))
+    (λ t. rw t (first-after b (split 9 w) w (tabbed-split w)))
+
+-- and back, where no part has a tab in it
+abbrev NoTabs : List Bytes → Type 0
+NoTabs [] = Unit
+NoTabs (w ∷ ws) = (memb 9 w ≡ false) × NoTabs ws
+
+split-on : (p s : Bytes) (ws : List Bytes) → memb 9 p ≡ false → split 9 s ≡ [] ∷ ws → split 9 (p ++ s) ≡ p ∷ ws
+split-on [] s ws n e = e
+split-on (b ∷ p) s ws n e =
+    let d = or-false (eqb 9 b) (memb 9 p) n in
+    rw (ne-eqb b 9 (λ z. eqb-false 9 b (d .0) (sym z)), split-on p s ws (d .1) e)
+
+split-tabbed : (p : Bytes) (ws : List Bytes) → NoTabs (p ∷ ws) → split 9 (p ++ tabbed ws) ≡ p ∷ ws
+split-tabbed p [] h = split-on p [] [] (h .0) refl
+split-tabbed p (w ∷ ws) h = split-on p (tabbed (w ∷ ws)) (w ∷ ws) (h .0) (ap (λ r. [] ∷ r) (split-tabbed w ws (h .1)))
+
+decimal-tab : (n : ℕ) (w : Bytes) → Decimal n w → memb 9 w ≡ false
+decimal-tab n w h = by (memb 9 w) (λ t. let m = mem-at w 9 t in absurd (omega (arith, h .digits (m .0) (m .1), m .2))) (λ t. t)
+
+value-tab : (v : Value) (w : Bytes) → KeyOr v w → memb 9 w ≡ false
+value-tab Absent w h = rw h
+value-tab (Key k) w h = decimal-tab k w (h .0)
+
+mode-tab : (m : Bool) (w : Bytes) → Mode m w → memb 9 w ≡ false
+mode-tab false w h = rw h
+mode-tab true w h = rw h
+
+letter-tab : (b : ℕ) (w : Bytes) → Letter b w → memb 9 w ≡ false
+letter-tab b w h = rw (h .0, ne-eqb 9 b (λ z. omega (arith, h .1)))
