@@ -176,3 +176,124 @@ mode-tab true w h = rw h
 
 letter-tab : (b : ℕ) (w : Bytes) → Letter b w → memb 9 w ≡ false
 letter-tab b w h = rw (h .0, ne-eqb 9 b (λ z. omega (arith, h .1)))
+
+-- LINES
+
+-- a line of a form is read as that line
+module _ (w : Bytes) where
+  -- the letter c and the fields after it are what the line is taken apart into
+  taken : (c : ℕ) (ws : List Bytes) → w ≡ c ∷ tabbed ws → NoTabs ((c ∷ []) ∷ ws) → lineOf (split 9 w) ≡ form c ws
+  taken c ws e h = ap (λ v. lineOf (split 9 v)) e ∙ ap lineOf (split-tabbed (c ∷ []) ws h)
+
+  form-read : (l : Line) → IsForm l w → lineOf (split 9 w) ≡ l
+  form-read (lineB i) h = taken 66 (h .0 ∷ []) (h .1) (refl, (decimal-tab i _ (h .2 .0), tt)) ∙ place-back i _ lineB (h .2)
+  form-read (lineR i r) h =
+      taken 82 (h .0 ∷ h .1 ∷ []) (h .2) (refl, (decimal-tab i _ (h .3 .0), (decimal-tab r _ (h .4 .0), tt)))
+      ∙ place-back i _ (λ i. number (h .1) (lineR i)) (h .3) ∙ number-back r _ (lineR i) (h .4)
+  form-read (lineW i r v) h =
+      taken 87 (h .0 ∷ h .1 ∷ h .2 ∷ []) (h .3) (refl, (decimal-tab i _ (h .4 .0), (decimal-tab r _ (h .5 .0), (value-tab v _ (h .6), tt))))
+      ∙ place-back i _ (λ i. number (h .1) (λ n. value (h .2) (lineW i n))) (h .4)
+      ∙ number-back r _ (λ n. value (h .2) (lineW i n)) (h .5)
+      ∙ value-back v _ (lineW i r) (h .6)
+  form-read (lineL i k) h =
+      taken 76 (h .0 ∷ h .1 ∷ []) (h .2) (refl, (decimal-tab i _ (h .3 .0), (decimal-tab k _ (h .4 .0), tt)))
+      ∙ place-back i _ (λ i. number (h .1) (lineL i)) (h .3) ∙ number-back k _ (lineL i) (h .4)
+  form-read (lineK i r) h =
+      taken 75 (h .0 ∷ h .1 ∷ []) (h .2) (refl, (decimal-tab i _ (h .3 .0), (decimal-tab r _ (h .4 .0), tt)))
+      ∙ place-back i _ (λ i. number (h .1) (lineK i)) (h .3) ∙ number-back r _ (lineK i) (h .4)
+  form-read (lineA i) h = taken 65 (h .0 ∷ []) (h .1) (refl, (decimal-tab i _ (h .2 .0), tt)) ∙ place-back i _ lineA (h .2)
+  form-read (lineC i m Uncut) h =
+      taken 67 (h .0 ∷ h .1 ∷ []) (h .2) (refl, (decimal-tab i _ (h .3 .0), (mode-tab m _ (h .4), tt)))
+      ∙ place-back i _ (λ i. mode (h .1) (λ m. lineC i m Uncut)) (h .3) ∙ mode-back m _ (λ m. lineC i m Uncut) (h .4)
+  form-read (lineC i m (After n)) h =
+      taken 67 (h .0 ∷ h .1 ∷ h .2 ∷ []) (h .3) (refl, (decimal-tab i _ (h .4 .0), (mode-tab m _ (h .5), (decimal-tab n _ (h .6 .0), tt))))
+      ∙ place-back i _ (λ i. mode (h .1) (λ m. number (h .2) (λ n. lineC i m (After n)))) (h .4)
+      ∙ mode-back m _ (λ m. number (h .2) (λ n. lineC i m (After n))) (h .5)
+      ∙ number-back n _ (λ n. lineC i m (After n)) (h .6)
+  form-read (lineF n b k) h =
+      taken 70 (h .0 ∷ h .1 ∷ h .2 ∷ []) (h .3) (refl, (decimal-tab n _ (h .4 .0), (letter-tab b _ (h .5), (decimal-tab k _ (h .6 .0), tt))))
+      ∙ number-back n _ (λ n. letter (h .1) (λ b. number (h .2) (lineF n b))) (h .4)
+      ∙ letter-back b _ (λ b. number (h .2) (lineF n b)) (h .5)
+      ∙ number-back k _ (lineF n b) (h .6)
+  form-read lineV h = rw h
+  form-read lineBad h = absurd h
+
+-- a line that is read is of that line's form, or it is bad: by the number of its fields
+module _ (w : Bytes) (l : Line) where
+  abbrev Read : Type 0
+  Read = IsForm l w ⊎ (l ≡ lineBad)
+
+  found : {m : Line} → m ≡ l → IsForm m w → Read
+  found g h = inl (subst (λ m. IsForm m w) g h)
+
+  module _ (c : ℕ) where
+    -- the letter is b
+    led : (b : ℕ) {r : Bytes} → w ≡ c ∷ r → eqb c b ≡ true → w ≡ b ∷ r
+    led b {r} e t = e ∙ ap (λ x. x ∷ r) (eqb-true c b t)
+
+    no-field : w ≡ c ∷ [] → form c [] ≡ l → Read
+    no-field s e = by (eqb c 86) (λ t. found {m = lineV} (rw t at e) (led 86 s t)) (λ t. inr (sym (rw t at e)))
+
+    one-field : (p : Bytes) → w ≡ c ∷ tabbed (p ∷ []) → form c (p ∷ []) ≡ l → Read
+    one-field p s e =
+        by (eqb c 66) (λ t. place-out l p lineB (rw t at e) λ i h g. found {m = lineB i} g (p, led 66 s t, h))
+        (λ t. by (eqb c 65) (λ u. place-out l p lineA (rw (t, u) at e) λ i h g. found {m = lineA i} g (p, led 65 s u, h))
+        (λ u. inr (sym (rw (t, u) at e))))
+
+    two-fields : (p q : Bytes) → w ≡ c ∷ tabbed (p ∷ q ∷ []) → form c (p ∷ q ∷ []) ≡ l → Read
+    two-fields p q s e =
+        by (eqb c 82)
+        (λ t. place-out l p (λ i. number q (lineR i)) (rw t at e) λ i h g.
+        number-out l q (lineR i) g λ n j d. found {m = lineR i n} d (p, q, led 82 s t, h, j))
+        (λ t. by (eqb c 76)
+        (λ u. place-out l p (λ i. number q (lineL i)) (rw (t, u) at e) λ i h g.
+        number-out l q (lineL i) g λ n j d. found {m = lineL i n} d (p, q, led 76 s u, h, j))
+        (λ u. by (eqb c 75)
+        (λ v. place-out l p (λ i. number q (lineK i)) (rw (t, u, v) at e) λ i h g.
+        number-out l q (lineK i) g λ n j d. found {m = lineK i n} d (p, q, led 75 s v, h, j))
+        (λ v. by (eqb c 67)
+        (λ z. place-out l p (λ i. mode q (λ m. lineC i m Uncut)) (rw (t, u, v, z) at e) λ i h g.
+        mode-out l q (λ m. lineC i m Uncut) g λ m j d. found {m = lineC i m Uncut} d (p, q, led 67 s z, h, j))
+        (λ z. inr (sym (rw (t, u, v, z) at e))))))
+
+    three-fields : (p q r : Bytes) → w ≡ c ∷ tabbed (p ∷ q ∷ r ∷ []) → form c (p ∷ q ∷ r ∷ []) ≡ l → Read
+    three-fields p q r s e =
+        by (eqb c 87)
+        (λ t. place-out l p (λ i. number q (λ n. value r (lineW i n))) (rw t at e) λ i h g.
+        number-out l q (λ n. value r (lineW i n)) g λ n j d.
+        value-out l r (lineW i n) d λ v o f. found {m = lineW i n v} f (p, q, r, led 87 s t, h, j, o))
+        (λ t. by (eqb c 67)
+        (λ u. place-out l p (λ i. mode q (λ m. number r (λ n. lineC i m (After n)))) (rw (t, u) at e) λ i h g.
+        mode-out l q (λ m. number r (λ n. lineC i m (After n))) g λ m j d.
+        number-out l r (λ n. lineC i m (After n)) d λ n o f. found {m = lineC i m (After n)} f (p, q, r, led 67 s u, h, j, o))
+        (λ u. by (eqb c 70)
+        (λ v. number-out l p (λ n. letter q (λ b. number r (lineF n b))) (rw (t, u, v) at e) λ n h g.
+        letter-out l q (λ b. number r (lineF n b)) g λ b j d.
+        number-out l r (lineF n b) d λ k o f. found {m = lineF n b k} f (p, q, r, led 70 s v, h, j, o))
+        (λ v. inr (sym (rw (t, u, v) at e)))))
+
+  read-form : (ws : List Bytes) → tabbed ws ≡ 9 ∷ w → lineOf ws ≡ l → Read
+  read-form [] s e = inr (sym e)
+  read-form ([] ∷ ws) s e = inr (sym e)
+  read-form ((c ∷ []) ∷ []) s e = no-field c (sym (ap (drop 1) s)) e
+  read-form ((c ∷ []) ∷ p ∷ []) s e = one-field c p (sym (ap (drop 1) s)) e
+  read-form ((c ∷ []) ∷ p ∷ q ∷ []) s e = two-fields c p q (sym (ap (drop 1) s)) e
+  read-form ((c ∷ []) ∷ p ∷ q ∷ r ∷ []) s e = three-fields c p q r (sym (ap (drop 1) s)) e
+  read-form ((c ∷ []) ∷ p ∷ q ∷ r ∷ t ∷ ws) s e = inr (sym e)
+  read-form ((c ∷ d ∷ v) ∷ ws) s e = inr (sym e)
+
+-- each line's bytes mean one line, the one that is read: of a form, or bad exactly if they are of none
+pub line-says : (w : Bytes) (l : Line) → (lineOf (split 9 w) ≡ l) ↔ Means l w
+line-says w l = (
+  λ e. elim (read-form w l (split 9 w) (tabbed-split w) e) [
+    inl h ↦ inl h
+    | inr b ↦ inr (b, λ m h. subst (λ k. IsForm k w) (sym (form-read w m h) ∙ e ∙ b) h)
+  ],
+  λ h. elim h [
+    inl f ↦ form-read w l f
+    | inr n ↦ elim (read-form w (lineOf (split 9 w)) (split 9 w) (tabbed-split w) refl) [
+      inl f ↦ absurd (n .1 (lineOf (split 9 w)) f)
+      | inr b ↦ b ∙ sym (n .0)
+    ]
+  ],
+)
