@@ -297,3 +297,66 @@ line-says w l = (
     ]
   ],
 )
+
+-- SCRIPTS
+
+-- a line before its feed, and a last line
+lines-fed : (w bs : Bytes) → memb 10 w ≡ false → linesIn (w ++ 10 ∷ bs) ≡ w ∷ linesIn bs
+lines-fed [] bs n = refl
+lines-fed (b ∷ w) bs n =
+    let d = or-false (eqb 10 b) (memb 10 w) n in
+    rw (ne-eqb b 10 (λ z. eqb-false 10 b (d .0) (sym z)), lines-fed w bs (d .1))
+
+lines-last : (b : ℕ) (w : Bytes) → memb 10 (b ∷ w) ≡ false → linesIn (b ∷ w) ≡ (b ∷ w) ∷ []
+lines-last b [] n = let d = or-false (eqb 10 b) false n in rw (ne-eqb b 10 (λ z. eqb-false 10 b (d .0) (sym z)))
+lines-last b (c ∷ w) n =
+    let d = or-false (eqb 10 b) (memb 10 (c ∷ w)) n in
+    rw (ne-eqb b 10 (λ z. eqb-false 10 b (d .0) (sym z)), lines-last c w (d .1))
+
+-- what is taken apart are the script's lines
+first-line : (b : ℕ) (bs : Bytes) (ws : List Bytes) → eqb b 10 ≡ false → LinesOf bs ws → LinesOf (b ∷ bs) (onFirst b ws)
+first-line b bs [] t h = (or-neither (eqb 10 b) false (ne-eqb 10 b (λ z. eqb-false b 10 t (sym z))) refl, inr (ap (λ r. b ∷ r) h, omega arith, refl))
+first-line b bs (w ∷ ws) t h = (
+  or-neither (eqb 10 b) (memb 10 w) (ne-eqb 10 b (λ z. eqb-false b 10 t (sym z))) (h .0),
+  elim (h .1) [
+    inl f ↦ inl (f .0, ap (λ r. b ∷ r) (f .1), f .2)
+    | inr f ↦ inr (ap (λ r. b ∷ r) (f .0), omega arith, f .2)
+  ],
+)
+
+are-lines : (bs : Bytes) → LinesOf bs (linesIn bs)
+are-lines [] = refl
+are-lines (b ∷ bs) =
+    by (eqb b 10)
+    (λ t. rw t (refl, inl (bs, ap (λ c. c ∷ bs) (eqb-true b 10 t), are-lines bs)))
+    (λ t. rw t (first-line b bs (linesIn bs) t (are-lines bs)))
+
+lines-are : (bs : Bytes) (ws : List Bytes) → LinesOf bs ws → linesIn bs ≡ ws
+lines-are bs [] h = rw h
+lines-are bs (w ∷ ws) h = elim (h .1) [
+  inl f ↦ ap linesIn (f .1) ∙ lines-fed w (f .0) (h .0) ∙ ap (λ r. w ∷ r) (lines-are (f .0) ws (f .2))
+  | inr f ↦ ap linesIn (f .0) ∙ last w (f .1) (h .0) ∙ ap (λ r. w ∷ r) (sym (f .2))
+]
+  where
+    last : (w : Bytes) → 0 < length w → memb 10 w ≡ false → linesIn w ≡ w ∷ []
+    last [] s n = absurd (omega arith)
+    last (b ∷ w) s n = lines-last b w n
+
+-- each line as it is read
+each-read : (ws : List Bytes) → Each (map (λ w. lineOf (split 9 w)) ws) ws
+each-read [] = tt
+each-read (w ∷ ws) = (line-says w (lineOf (split 9 w)) .0 refl, each-read ws)
+
+read-each : (ls : List Line) (ws : List Bytes) → Each ls ws → map (λ w. lineOf (split 9 w)) ws ≡ ls
+read-each [] [] h = refl
+read-each [] (w ∷ ws) h = absurd h
+read-each (l ∷ ls) [] h = absurd h
+read-each (l ∷ ls) (w ∷ ws) h = λ i. line-says w l .1 (h .0) i ∷ read-each ls ws (h .1) i
+
+-- "Tab-separated lines": every script means one list of lines, the one that is read
+pub script-says : (bs : Bytes) (ls : List Line) → (parse bs ≡ ls) ↔ IsScript ls bs
+unfolding parse
+script-says bs ls = (
+  λ e. subst (λ ls. IsScript ls bs) e (linesIn bs, are-lines bs, each-read (linesIn bs)),
+  λ h. ap (map (λ w. lineOf (split 9 w))) (lines-are bs (h .0) (h .1)) ∙ read-each ls (h .0) (h .2),
+)
