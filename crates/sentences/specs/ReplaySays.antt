@@ -12,13 +12,14 @@ use lib.Seq.{getD-set-same, getD-set-other, getD-append-seam, getD-at, getD-take
 use borrow.Author.Tests.{ltb-true, ltb-false, lt-ltb, le-ltb, eq-eqb, ne-eqb, eqb-true, eqb-false}
 use Rattle.records.specs.Limits.{rows, writeLimit, readLimit, placeLimit, faultLimit, digits64}
 use Rattle.records.specs.Relations.{wide-written}
-use Rattle.records.specs.Zero.{emptyStore, fresh, onlyTxid, zeroTx, noFault, noFaults}
+use Rattle.records.specs.Zero.{emptyStore, fresh, onlyTxid, zeroTx, noWrite, noRead, noIndexRead, noFault, noFaults}
 use Rattle.rules.specs.Lists.{pad}
-use Rattle.rules.specs.Types.{Store, Tx, Fault, Schedule, Value, Absent, Key, Refusal, Written, Found, Open}
-use Rattle.rules.specs.Types.{FoundPoisoned, RowTooHigh, ReadsFull, WritesFull, SlotsFull}
+use Rattle.rules.specs.Types.{Store, Tx, Fault, Schedule, Value, Absent, Key, Cut, Open}
+use Rattle.rules.specs.Types.{RowTooHigh, ReadsFull, WritesFull, SlotsFull}
 use Rattle.rules.specs.Transaction.{readsOf}
 use Rattle.rules.specs.Faults.{faultsOf}
 use Rattle.rules.specs.Numbers.{numberOf, isDone, refuse}
+use Rattle.rules.specs.Answer.{commit}
 use Rattle.rules.specs.Calls.{admitsHealthy, begin, read, lowestFree, write, candidates, recordReads, lookup, rowLock, abort}
 use Rattle.rules.specs.Replay.{Line, lineB, lineR, lineW, lineL, lineK, lineA, lineC, lineF, lineV, lineBad, Third, num, dash, Out, Desk}
 use Rattle.rules.specs.Replay.{start, valueThird, withFault, turn, replayFrom, replay}
@@ -143,3 +144,235 @@ all-of n z = (length-replicate n z, same n)
     same zero j = refl
     same (suc n) zero = refl
     same (suc n) (suc j) = same n j
+
+no-faults : NoFaults noFaults
+unfolding noFaults
+no-faults = record { count = refl; places = all-of faultLimit noFault .0; zero = all-of faultLimit noFault .1 }
+
+-- "the next C, which judges it and uses it up whatever it answers"
+commit-line : (i : ℕ) (logged : Bool) (cut : Cut) (d : Desk)
+    → Commits i logged cut d (turn (lineC i logged cut) d .desk) (turn (lineC i logged cut) d .out)
+unfolding turn
+commit-line i logged cut d =
+    let a = commit (d .store) (txOf d i) logged (d .plan) cut in
+    record { number = refl; store = refl; tx = laid-says i (a .tx) d (a .store) noFaults; faults = no-faults; third = refl }
+
+-- one fault more stands after those that there are
+module _ (f : Fault) (c : Schedule) (h : (c .count ≤ 25) × (length (c .faults) ≡ 25)) where
+  held : length (faultsOf c) ≡ c .count
+  held = length-take-le (c .count) (c .faults) (omega (arith, h .0, h .1))
+
+  -- what is laid out of them
+  laid-out : (j : ℕ) → c .count < 25 → j ≤ c .count → getD (pad 25 noFault (faultsOf c ++ f ∷ [])) j noFault ≡ getD (faultsOf c ++ f ∷ []) j noFault
+  laid-out j l k =
+      let n : length (faultsOf c ++ f ∷ []) ≡ suc (c .count) = omega (arith, length-append (faultsOf c) (f ∷ []), held) in
+      sym (getD-take (length (faultsOf c ++ f ∷ [])) (pad 25 noFault (faultsOf c ++ f ∷ [])) j noFault (omega arith))
+      ∙ ap (λ m. getD m j noFault) (take-pad 25 noFault (faultsOf c ++ f ∷ []) (omega arith))
+
+  one-more : OneMore f c (withFault f c)
+  unfolding withFault
+  one-more = record {
+    count = λ l. rw (lt-ltb (c .count) 25 l);
+    last = λ l. rw (lt-ltb (c .count) 25 l) (laid-out (c .count) l (omega arith) ∙ getD-at (faultsOf c) f [] noFault (c .count) held);
+    others = λ j k.
+        by (ltb (c .count) 25)
+        (λ t. rw t (laid-out j (ltb-true _ _ t) (omega arith)
+        ∙ List·getD-append (faultsOf c) (f ∷ []) noFault j (omega (arith, held)) ∙ getD-take (c .count) (c .faults) j noFault k))
+        (λ t. rw t);
+    full = λ l. rw (le-ltb (c .count) 25 l);
+    places = by (ltb (c .count) 25) (λ t. rw t (pad-length 25 noFault (faultsOf c ++ f ∷ []) ∙ sym (h .1))) (λ t. rw t);
+  }
+
+fault-line : (n b k : ℕ) (d : Desk) → Faults n b k d (turn (lineF n b k) d .desk) (turn (lineF n b k) d .out)
+unfolding turn
+fault-line n b k d = record {
+  number = refl;
+  third = refl;
+  store = refl;
+  txs = refl;
+  faults = λ h. one-more (record { step = n; letter = b; k = k }) (d .plan) h;
+}
+
+recover-line : (d : Desk) → Recovers d (turn lineV d .desk) (turn lineV d .out)
+unfolding turn
+recover-line d = record { number = refl; third = refl; store = refl; txs = refl; faults = refl }
+
+bad-line : (d : Desk) → Refused d (turn lineBad d .desk) (turn lineBad d .out)
+unfolding turn
+bad-line d = record { number = refl; third = refl; desk = refl }
+
+-- what each line does to the store, to its place's transaction, to the others and to the pending faults, and what it prints
+pub turn-says : (l : Line) (d : Desk) → Does l d (turn l d .desk) (turn l d .out)
+turn-says (lineB i) d = begin-line i d
+turn-says (lineR i r) d = read-line i r d
+turn-says (lineW i r v) d = write-line i r v d
+turn-says (lineL i k) d = lookup-line i k d
+turn-says (lineK i r) d = lock-line i r d
+turn-says (lineA i) d = abort-line i d
+turn-says (lineC i m c) d = commit-line i m c d
+turn-says (lineF n b k) d = fault-line n b k d
+turn-says lineV d = recover-line d
+turn-says lineBad d = bad-line d
+
+-- one after the other
+pub lines-play : (d : Desk) (ls : List Line) → Plays d ls (replayFrom d ls)
+lines-play d [] = refl
+lines-play d (l ∷ ls) = (turn l d .desk, turn l d .out, replayFrom (turn l d .desk) ls, refl, turn-says l d, lines-play (turn l d .desk) ls)
+
+-- THE START
+
+empty-says : IsEmpty fresh
+unfolding fresh emptyStore
+empty-says = record {
+  heads = all-of 64 0;
+  xmin = all-of 257 0;
+  xmax = all-of 257 0;
+  next = all-of 257 0;
+  key = all-of 257 0;
+  has = all-of 257 false;
+  locked = all-of 257 false;
+  owner = all-of 257 0;
+  postings = all-of 128 0;
+  count = refl;
+  stripes = all-of 16 0;
+  partitions = all-of 16 0;
+  stamps = all-of 16 0;
+  active = all-of 16 0;
+  clock = refl;
+  poisoned = refl;
+  doomed = refl;
+  bound = refl;
+}
+
+zero-says : IsZero zeroTx
+unfolding zeroTx onlyTxid
+zero-says = record {
+  txid = refl;
+  xmin = refl;
+  xmax = refl;
+  snapshot = all-of 16 0;
+  seen = refl;
+  writes = all-of 16 noWrite;
+  written = refl;
+  reads = all-of 32 noRead;
+  read = refl;
+  index = all-of 16 noIndexRead;
+  indexed = refl;
+  conflict = refl;
+  savepoints = all-of 4 0;
+  saved = refl;
+}
+
+-- "It starts from the empty store and zero transactions"
+pub start-says : Starts start
+unfolding start
+start-says = record {
+  store = empty-says;
+  places = all-of placeLimit zeroTx .0;
+  zero = λ i. rw (all-of placeLimit zeroTx .1 i) zero-says;
+  faults = no-faults;
+}
+
+-- THE ANSWERS
+
+-- one digit after others
+worth-more : (w : Bytes) (d : ℕ) → worth (w ++ d ∷ []) ≡ worth w * 10 + (d - 48)
+worth-more [] d = omega arith
+worth-more (b ∷ w) d =
+    let e : length (w ++ d ∷ []) ≡ suc (length w) = omega (arith, length-append w (d ∷ [])) in
+    rw (e, pow-suc 10 (length w)) (omega (arith, worth-more w d))
+
+-- a 0 that stands alone is worth nothing
+zero-alone : (w : Bytes) → getD w 0 0 ≡ 48 → length w ≡ 1 → worth w ≡ 0
+zero-alone [] z l = refl
+zero-alone (b ∷ []) z l = rw z
+zero-alone (b ∷ c ∷ w) z l = absurd (omega arith)
+
+one-digit : (n : ℕ) → n < 10 → Decimal n ((48 + n % 10) ∷ [])
+one-digit n l = record { some = omega arith; digits = only; unpadded = λ z. refl; value = omega arith }
+  where
+    only : (j : ℕ) → j < 1 → (48 ≤ getD ((48 + n % 10) ∷ []) j 0) × (getD ((48 + n % 10) ∷ []) j 0 ≤ 57)
+    only zero h = (omega arith, omega arith)
+    only (suc j) h = absurd (omega arith)
+
+more-digits : (n : ℕ) (p : Bytes) → 10 ≤ n → Decimal (n / 10) p → Decimal n (p ++ (48 + n % 10) ∷ [])
+more-digits n p l h =
+    let d = 48 + n % 10 in
+    let k = length-append p (d ∷ []) in
+    record {
+      some = omega (arith, k);
+      digits = λ j b.
+          by (ltb j (length p))
+          (λ t. rw (List·getD-append p (d ∷ []) 0 j (ltb-true _ _ t)) (h .digits j (ltb-true _ _ t)))
+          (λ t. let e : j ≡ length p = omega (arith, k, ltb-false j (length p) t) in
+          rw (e, getD-append-seam p d [] 0) (omega arith, omega arith));
+      unpadded = λ z.
+          let y : getD p 0 0 ≡ 48 = sym (List·getD-append p (d ∷ []) 0 0 (h .some)) ∙ z in
+          absurd (omega (arith, zero-alone p y (h .unpadded y), h .value));
+      value = worth-more p d ∙ omega (arith, h .value);
+    }
+
+-- a number is written in decimal, before what follows it
+in-decimal : (f n : ℕ) (rest : Bytes) → 0 < f → n < 10 ^ f → (p : Bytes) × (decimal f n rest ≡ p ++ rest) × Decimal n p
+in-decimal zero n rest h l = absurd (omega arith)
+in-decimal (suc f) n rest h l =
+    by (ltb n 10)
+    (λ t. ((48 + n % 10) ∷ [], rw (decimal, t), one-digit n (ltb-true _ _ t)))
+    (λ t. let b : 10 ≤ n = ltb-false _ _ t in
+    let r = in-decimal f (n / 10) ((48 + n % 10) ∷ rest) (left f b l) (omega arith) in
+    (r .0 ++ (48 + n % 10) ∷ [], rw (decimal, t) (r .1 ∙ sym (append-assoc (r .0) ((48 + n % 10) ∷ []) rest)), more-digits n (r .0) b (r .2)))
+  where
+    left : (f : ℕ) → 10 ≤ n → n < 10 ^ suc f → 0 < f
+    left zero b l = absurd (omega arith)
+    left (suc f) b l = omega arith
+
+-- shut, since a goal would show each digit's step
+unfoldable inFull : ℕ → Bytes → Bytes
+inFull n rest = decimal digits64 n rest
+
+full-says : (n : ℕ) (rest : Bytes) → n < 2 ^ 64 → (p : Bytes) × (inFull n rest ≡ p ++ rest) × Decimal n p
+unfolding inFull
+full-says n rest h = in-decimal digits64 n rest (omega arith) (omega (arith, wide-written))
+
+third-says : (t : Third) (rest : Bytes) → Third64 t → (p : Bytes) × (third t rest ≡ p ++ rest) × IsThird t p
+unfolding inFull
+third-says (num n) rest h = full-says n rest h
+third-says dash rest h = (45 ∷ [], refl, refl)
+
+line-first : (n : ℕ) (o : Out) (os : List Out)
+    → script.write n (o ∷ os) ≡ inFull n (9 ∷ inFull (o .number) (9 ∷ third (o .third) (10 ∷ script.write (suc n) os)))
+unfolding inFull
+line-first n o os = refl
+
+-- "Output: line number, number, then .."
+pub output-says : (n : ℕ) (os : List Out) → n + length os ≤ 2 ^ 64 → Outs64 os → IsOutput n os (script.write n os)
+output-says n [] l h = refl
+output-says n (o ∷ os) l h =
+    let rest = script.write (suc n) os in
+    let c = third-says (o .third) (10 ∷ rest) (h .1) in
+    let b = full-says (o .number) (9 ∷ third (o .third) (10 ∷ rest)) (h .0) in
+    let a = full-says n (9 ∷ inFull (o .number) (9 ∷ third (o .third) (10 ∷ rest))) (omega arith) in
+    (
+      a .0,
+      b .0,
+      c .0,
+      rest,
+      line-first n o os ∙ a .1 ∙ ap (λ r. a .0 ++ 9 ∷ r) (b .1 ∙ ap (λ r. b .0 ++ 9 ∷ r) (c .1)),
+      a .2,
+      b .2,
+      c .2,
+      output-says (suc n) os (omega arith) (h .2),
+    )
+
+-- A WHOLE REPLAY, from the script's bytes to the answers'
+pub replay-says : (bs : Bytes) → Replays bs (replayText bs)
+unfolding replayText replay
+replay-says bs = record {
+  desk = start;
+  lines = parse bs;
+  outs = replayFrom start (parse bs);
+  starts = start-says;
+  script = script-says bs (parse bs) .0 refl;
+  plays = lines-play start (parse bs);
+  prints = λ l h. output-says 1 (replayFrom start (parse bs)) (omega arith) h;
+}

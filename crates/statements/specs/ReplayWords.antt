@@ -52,7 +52,7 @@ Letter b w = (w ≡ b ∷ []) × (65 ≤ b) × (b ≤ 90)
 -- "Tab-separated lines": fields, each after a tab
 abbrev pub tabbed : List Bytes → Bytes
 tabbed [] = []
-tabbed (w ∷ ws) = 9 ∷ w ++ tabbed ws
+tabbed (w ∷ ws) = 9 ∷ (w ++ tabbed ws)
 
 -- "B place; R place row; W place row key or -; L place key; K place row; A place; C place u or l, optionally a cut; F step letter k; V recovers":
 -- the bytes w are a line of this form, with these numbers
@@ -101,7 +101,7 @@ IsThird dash w = w ≡ 45 ∷ []
 abbrev pub IsOutput : ℕ → List Out → Bytes → Type 0
 IsOutput n [] w = w ≡ []
 IsOutput n (o ∷ os) w =
-    (p : Bytes) × (q : Bytes) × (t : Bytes) × (rest : Bytes) × (w ≡ p ++ 9 ∷ q ++ 9 ∷ t ++ 10 ∷ rest)
+    (p : Bytes) × (q : Bytes) × (t : Bytes) × (rest : Bytes) × (w ≡ p ++ 9 ∷ (q ++ 9 ∷ (t ++ 10 ∷ rest)))
     × Decimal n p × Decimal (o .number) q × IsThird (o .third) t × IsOutput (suc n) os rest
 
 -- what is printed has 64 bits
