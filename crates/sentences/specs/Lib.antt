@@ -10,5 +10,6 @@ pub mod StepsSay
 -- "Replay": its bytes; its lines; and a table of both, computed
 pub mod ScriptSays
 pub mod ReplaySays
+pub mod ReplayTable
 -- "Mornings at a limit" and the example of "Replay", computed
 pub mod Mornings

@@ -28,7 +28,8 @@ use Rattle.rules.specs.Script.{decimal, third, replayText, parse}
 use Rattle.basic_laws.specs.Cases.{by}
 use Rattle.basic_laws.specs.LaidOut.{pad-length, take-pad}
 use Rattle.statements.specs.ReplayWords.{Bytes, worth, Decimal, IsThird, IsOutput, Third64, Outs64, txOf, Laid, Begins, KeyOrDash, Reads, Writes, LooksUp}
-use Rattle.statements.specs.ReplayWords.{Locks, Aborts, NoFaults, Commits, OneMore, Faults, Recovers, Refused, Does, Plays, AllOf, IsEmpty, IsZero, Starts, Replays}
+use Rattle.statements.specs.ReplayWords.{Locks, Aborts, NoFaults, Commits, OneMore, Faults, Recovers}
+use Rattle.statements.specs.ReplayWords.{Refused, Does, Plays, AllOf, IsEmpty, IsZero, Starts, Replays}
 use Rattle.sentences.specs.ScriptSays.{script-says}
 
 -- WHAT EACH LINE DOES
@@ -351,8 +352,7 @@ output-says n (o ∷ os) l h =
     let rest = script.write (suc n) os in
     let c = third-says (o .third) (10 ∷ rest) (h .1) in
     let b = full-says (o .number) (9 ∷ third (o .third) (10 ∷ rest)) (h .0) in
-    let a = full-says n (9 ∷ inFull (o .number) (9 ∷ third (o .third) (10 ∷ rest))) (omega arith) in
-    (
+    let a = full-says n (9 ∷ inFull (o .number) (9 ∷ third (o .third) (10 ∷ rest))) (omega arith) in (
       a .0,
       b .0,
       c .0,

@@ -44,22 +44,26 @@ digits-all w a j l = digit (getD w j 0) (all-at isDigit w a j 0 l)
 is-number : (w : Bytes) → isNumber w ≡ true → Number (valueOf 0 w) w
 is-number [] e = clash {b = false} e refl
 is-number (b ∷ []) e =
-    let d = digit b e in
-    (record {
-      some = omega arith;
-      digits = digits-all (b ∷ []) (rw e);
-      unpadded = λ z. refl;
-      value = sym (worth-value (b ∷ []));
-    }, omega arith)
+    let d = digit b e in (
+      record {
+        some = omega arith;
+        digits = digits-all (b ∷ []) (rw e);
+        unpadded = λ z. refl;
+        value = sym (worth-value (b ∷ []));
+      },
+      omega arith,
+    )
 is-number (b ∷ c ∷ w) e =
     let t = and-true (all isDigit (b ∷ c ∷ w) && not (eqb b 48)) (ltb (valueOf 0 (b ∷ c ∷ w)) keyEnd) e in
-    let u = and-true (all isDigit (b ∷ c ∷ w)) (not (eqb b 48)) (t .0) in
-    (record {
-      some = omega arith;
-      digits = digits-all (b ∷ c ∷ w) (u .0);
-      unpadded = λ z. absurd (eqb-false b 48 (not-true _ (u .1)) z);
-      value = sym (worth-value (b ∷ c ∷ w));
-    }, ltb-true _ _ (t .1))
+    let u = and-true (all isDigit (b ∷ c ∷ w)) (not (eqb b 48)) (t .0) in (
+      record {
+        some = omega arith;
+        digits = digits-all (b ∷ c ∷ w) (u .0);
+        unpadded = λ z. absurd (eqb-false b 48 (not-true _ (u .1)) z);
+        value = sym (worth-value (b ∷ c ∷ w));
+      },
+      ltb-true _ _ (t .1),
+    )
 
 number-is : (n : ℕ) (w : Bytes) → Number n w → (isNumber w ≡ true) × (valueOf 0 w ≡ n)
 number-is n [] h = absurd (omega (arith, h .0 .some))
@@ -286,13 +290,13 @@ module _ (w : Bytes) (l : Line) where
 pub line-says : (w : Bytes) (l : Line) → (lineOf (split 9 w) ≡ l) ↔ Means l w
 line-says w l = (
   λ e. elim (read-form w l (split 9 w) (tabbed-split w) e) [
-    inl h ↦ inl h
+    | inl h ↦ inl h
     | inr b ↦ inr (b, λ m h. subst (λ k. IsForm k w) (sym (form-read w m h) ∙ e ∙ b) h)
   ],
   λ h. elim h [
-    inl f ↦ form-read w l f
+    | inl f ↦ form-read w l f
     | inr n ↦ elim (read-form w (lineOf (split 9 w)) (split 9 w) (tabbed-split w) refl) [
-      inl f ↦ absurd (n .1 (lineOf (split 9 w)) f)
+      | inl f ↦ absurd (n .1 (lineOf (split 9 w)) f)
       | inr b ↦ b ∙ sym (n .0)
     ]
   ],
@@ -319,7 +323,7 @@ first-line b bs [] t h = (or-neither (eqb 10 b) false (ne-eqb 10 b (λ z. eqb-fa
 first-line b bs (w ∷ ws) t h = (
   or-neither (eqb 10 b) (memb 10 w) (ne-eqb 10 b (λ z. eqb-false b 10 t (sym z))) (h .0),
   elim (h .1) [
-    inl f ↦ inl (f .0, ap (λ r. b ∷ r) (f .1), f .2)
+    | inl f ↦ inl (f .0, ap (λ r. b ∷ r) (f .1), f .2)
     | inr f ↦ inr (ap (λ r. b ∷ r) (f .0), omega arith, f .2)
   ],
 )
@@ -334,7 +338,7 @@ are-lines (b ∷ bs) =
 lines-are : (bs : Bytes) (ws : List Bytes) → LinesOf bs ws → linesIn bs ≡ ws
 lines-are bs [] h = rw h
 lines-are bs (w ∷ ws) h = elim (h .1) [
-  inl f ↦ ap linesIn (f .1) ∙ lines-fed w (f .0) (h .0) ∙ ap (λ r. w ∷ r) (lines-are (f .0) ws (f .2))
+  | inl f ↦ ap linesIn (f .1) ∙ lines-fed w (f .0) (h .0) ∙ ap (λ r. w ∷ r) (lines-are (f .0) ws (f .2))
   | inr f ↦ ap linesIn (f .0) ∙ last w (f .1) (h .0) ∙ ap (λ r. w ∷ r) (sym (f .2))
 ]
   where
