@@ -1,23 +1,24 @@
 -- "Replay": what each line does and prints, where it starts, and how the answers are written.
 use mathlib.Core.Path.{_≡_, refl, sym, ap, _∙_}
-use mathlib.Core.Bool.{Bool, true, false, cond}
+use mathlib.Core.Bool.{Bool, true, false, not}
 use mathlib.Core.List.{List, [], _∷_, _++_, append-assoc}
 use mathlib.Core.Logic.{_≢_}
 use Prim.Native.Nat.{ℕ, zero, suc, _+_, _-_, _*_, _/_, _%_, _^_, _<_, _≤_}
 use native.Mathlib.Nat.{pow-suc}
 use native.Mathlib.Omega.{arith}
 use lib.Dec.{eqb, ltb, leb}
-use lib.ListN.{length, getD, take, set, replicate, length-append, length-set, length-replicate, List·getD-append}
+use lib.ListN.{length, getD, set, replicate, length-append, length-set, length-replicate, length-take}
+use lib.ListN.{List·getD-append, List·getD-eq-default}
 use lib.Seq.{getD-set-same, getD-set-other, getD-append-seam, getD-at, getD-take, length-take-le}
-use borrow.Author.Tests.{ltb-true, ltb-false, lt-ltb, le-ltb, eq-eqb, ne-eqb, eqb-true, eqb-false}
+use borrow.Author.Tests.{ltb-true, ltb-false, lt-ltb, le-ltb, eq-eqb, ne-eqb, eqb-true, eqb-false, not-true}
 use Rattle.records.specs.Limits.{rows, writeLimit, readLimit, placeLimit, faultLimit, digits64}
 use Rattle.records.specs.Relations.{wide-written}
 use Rattle.records.specs.Zero.{emptyStore, fresh, onlyTxid, zeroTx, noWrite, noRead, noIndexRead, noFault, noFaults}
-use Rattle.rules.specs.Lists.{pad}
+use Rattle.rules.specs.Lists.{all, memb, pad}
 use Rattle.rules.specs.Types.{Store, Tx, Fault, Schedule, Value, Absent, Key, Cut, Open}
 use Rattle.rules.specs.Types.{RowTooHigh, ReadsFull, WritesFull, SlotsFull}
 use Rattle.rules.specs.Transaction.{readsOf}
-use Rattle.rules.specs.Faults.{faultsOf}
+use Rattle.rules.specs.Faults.{may, table, allowed, stepsApart, faultsOf, scheduleFit}
 use Rattle.rules.specs.Numbers.{numberOf, isDone, refuse}
 use Rattle.rules.specs.Answer.{commit}
 use Rattle.rules.specs.Calls.{admitsHealthy, begin, read, lowestFree, write, candidates, recordReads, lookup, rowLock, abort}
@@ -25,7 +26,10 @@ use Rattle.rules.specs.Replay.{Line, lineB, lineR, lineW, lineL, lineK, lineA, 
 use Rattle.rules.specs.Replay.{start, valueThird, withFault, turn, replayFrom, replay}
 use Rattle.rules.specs.Script as script
 use Rattle.rules.specs.Script.{decimal, third, replayText, parse}
-use Rattle.basic_laws.specs.Cases.{by}
+use Rattle.basic_laws.specs.Cases.{by, clash, and-true}
+use Rattle.basic_laws.specs.AllOf.{all-then}
+use Rattle.basic_laws.specs.Blanks.{all-both}
+use Rattle.basic_laws.specs.Sound.{zeros, zeros-set}
 use Rattle.basic_laws.specs.LaidOut.{pad-length, take-pad}
 use Rattle.statements.specs.ReplayWords.{Bytes, worth, Decimal, IsThird, IsOutput, Third64, Outs64, txOf, Laid, Begins, KeyOrDash, Reads, Writes, LooksUp}
 use Rattle.statements.specs.ReplayWords.{Locks, Aborts, NoFaults, Commits, OneMore, Faults, Recovers}
@@ -158,6 +162,57 @@ commit-line i logged cut d =
     let a = commit (d .store) (txOf d i) logged (d .plan) cut in
     record { number = refl; store = refl; tx = laid-says i (a .tx) d (a .store) noFaults; faults = no-faults; third = refl }
 
+-- a step that allows a letter is none of 0, 1, 2 and below 25
+unfoldable barred : List ℕ
+barred = 1 ∷ 1 ∷ 1 ∷ replicate 22 0
+
+barred-not : (n b : ℕ) → memb b (getD table n (may []) .letters) ≡ true → getD barred n 0 ≡ 0
+unfolding barred table
+barred-not zero b e = clash {b = false} e refl
+barred-not (suc zero) b e = clash {b = false} e refl
+barred-not (suc (suc zero)) b e = clash {b = false} e refl
+barred-not (suc (suc (suc n))) b e = all-of {A = ℕ} 22 0 .1 n
+
+no-step : (n b : ℕ) → 25 ≤ n → memb b (getD table n (may []) .letters) ≡ false
+unfolding table
+no-step n b h = rw (List·getD-eq-default table (may []) {n = n} h)
+
+allowed-step : (f : Fault) → allowed f ≡ true → (f .step < 25) × (getD barred (f .step) 0 ≡ 0)
+unfolding allowed
+allowed-step f e =
+    let m = and-true (memb (f .letter) (getD table (f .step) (may []) .letters)) _ e .0 in (
+      by (ltb (f .step) 25) (λ t. ltb-true _ _ t) (λ t. clash m (no-step (f .step) (f .letter) (ltb-false _ _ t))),
+      barred-not (f .step) (f .letter) m,
+    )
+
+-- so 25 faults are never fit: they would be at 22 steps
+few-steps : (seen : List ℕ) (fs : List Fault) → length seen ≡ 25 → all allowed fs ≡ true → stepsApart fs ≡ true
+    → all (λ g. eqb (getD seen (g .step) 0) 0) fs ≡ true → length fs ≤ zeros seen
+few-steps seen [] l a s u = omega arith
+few-steps seen (f ∷ fs) l a s u =
+    let b = and-true (allowed f) (all allowed fs) a in
+    let t = and-true (all (λ g. not (eqb (g .step) (f .step))) fs) (stepsApart fs) s in
+    let v = and-true (eqb (getD seen (f .step) 0) 0) (all (λ g. eqb (getD seen (g .step) 0) 0) fs) u in
+    let z = zeros-set seen (f .step) (omega (arith, allowed-step f (b .0) .0)) (eqb-true _ 0 (v .0)) in
+    let both = all-both (λ g. not (eqb (g .step) (f .step))) (λ g. eqb (getD seen (g .step) 0) 0) fs (t .0) (v .1) in
+    let free = all-then _ (λ (g : Fault). eqb (getD (set seen (f .step) 1) (g .step) 0) 0) (λ g h.
+    let d = and-true (not (eqb (g .step) (f .step))) (eqb (getD seen (g .step) 0) 0) h in
+    rw (getD-set-other seen (f .step) (g .step) 1 0 (eqb-false _ _ (not-true _ (d .0)))) (d .1)) fs both in
+    omega (arith, z, few-steps (set seen (f .step) 1) fs (length-set seen (f .step) 1 ∙ l) (b .1) (t .1) free)
+
+barred-few : (length barred ≡ 25) × (zeros barred ≡ 22)
+unfolding barred zeros
+barred-few = (refl, refl)
+
+full-unfit : (c : Schedule) → 25 ≤ c .count → length (c .faults) ≡ 25 → scheduleFit c ≡ false
+unfolding scheduleFit
+full-unfit c h l =
+    by (scheduleFit c)
+    (λ t. let d = and-true (all allowed (faultsOf c)) (stepsApart (faultsOf c)) t in
+    let free = all-then allowed (λ g. eqb (getD barred (g .step) 0) 0) (λ g e. eq-eqb _ 0 (allowed-step g e .1)) (faultsOf c) (d .0) in
+    absurd (omega (arith, barred-few, length-take (c .count) (c .faults), few-steps barred (faultsOf c) (barred-few .0) (d .0) (d .1) free)))
+    (λ t. t)
+
 -- one fault more stands after those that there are
 module _ (f : Fault) (c : Schedule) (h : (c .count ≤ 25) × (length (c .faults) ≡ 25)) where
   held : length (faultsOf c) ≡ c .count
@@ -180,7 +235,7 @@ module _ (f : Fault) (c : Schedule) (h : (c .count ≤ 25) × (length (c .faults
         (λ t. rw t (laid-out j (ltb-true _ _ t) (omega arith)
         ∙ List·getD-append (faultsOf c) (f ∷ []) noFault j (omega (arith, held)) ∙ getD-take (c .count) (c .faults) j noFault k))
         (λ t. rw t);
-    full = λ l. rw (le-ltb (c .count) 25 l);
+    full = λ l. (rw (le-ltb (c .count) 25 l), full-unfit c l (h .1));
     places = by (ltb (c .count) 25) (λ t. rw t (pad-length 25 noFault (faultsOf c ++ f ∷ []) ∙ sym (h .1))) (λ t. rw t);
   }
 

@@ -1,14 +1,14 @@
 -- "Replay": which bytes are a line of which form, and which lines a script has.
 use mathlib.Core.Path.{_≡_, refl, sym, ap, subst, _∙_}
-use mathlib.Core.Bool.{Bool, true, false, not, cond, _&&_}
+use mathlib.Core.Bool.{Bool, true, false, not, _&&_}
 use mathlib.Core.List.{List, [], _∷_, _++_, map}
 use mathlib.Core.Logic.{_↔_, _⊎_, inl, inr}
-use Prim.Native.Nat.{ℕ, suc, _+_, _-_, _*_, _^_, _<_, _≤_}
+use Prim.Native.Nat.{ℕ, _+_, _-_, _*_, _^_, _<_, _≤_}
 use native.Mathlib.Nat.{pow-suc}
 use native.Mathlib.Omega.{arith}
 use lib.Dec.{eqb, ltb, leb}
 use lib.ListN.{length, getD, drop}
-use borrow.Author.Tests.{ltb-true, leb-true, eqb-true, eqb-false, lt-ltb, le-leb, eq-eqb, ne-eqb, not-true}
+use borrow.Author.Tests.{ltb-true, leb-true, eqb-true, eqb-false, lt-ltb, le-leb, ne-eqb, not-true}
 use Rattle.records.specs.Limits.{keyEnd, placeLimit}
 use Rattle.rules.specs.Lists.{all, memb}
 use Rattle.rules.specs.Types.{Value, Absent, Key, Uncut, After}
@@ -28,23 +28,23 @@ value-worth v (b ∷ w) = value-worth (v * 10 + (b - 48)) w ∙ rw (pow-suc 10 (
 worth-value : (w : Bytes) → valueOf 0 w ≡ worth w
 worth-value w = value-worth 0 w ∙ omega arith
 
-digit : (b : ℕ) → isDigit b ≡ true → (48 ≤ b) × (b ≤ 57)
-digit b d = let t = and-true (leb 48 b) (leb b 57) d in (leb-true 48 b (t .0), leb-true b 57 (t .1))
-
-is-digit : (b : ℕ) → (48 ≤ b) × (b ≤ 57) → isDigit b ≡ true
-is-digit b d = rw (le-leb 48 b (d .0), le-leb b 57 (d .1))
+digit-says : (b : ℕ) → (isDigit b ≡ true) ↔ ((48 ≤ b) × (b ≤ 57))
+digit-says b = (
+  λ d. let t = and-true (leb 48 b) (leb b 57) d in (leb-true 48 b (t .0), leb-true b 57 (t .1)),
+  λ d. rw (le-leb 48 b (d .0), le-leb b 57 (d .1)),
+)
 
 all-digits : (w : Bytes) → ((j : ℕ) → j < length w → (48 ≤ getD w j 0) × (getD w j 0 ≤ 57)) → all isDigit w ≡ true
-all-digits w h = at-all isDigit w 0 (λ j l. is-digit (getD w j 0) (h j l))
+all-digits w h = at-all isDigit w 0 (λ j l. digit-says (getD w j 0) .1 (h j l))
 
 digits-all : (w : Bytes) → all isDigit w ≡ true → (j : ℕ) → j < length w → (48 ≤ getD w j 0) × (getD w j 0 ≤ 57)
-digits-all w a j l = digit (getD w j 0) (all-at isDigit w a j 0 l)
+digits-all w a j l = digit-says (getD w j 0) .0 (all-at isDigit w a j 0 l)
 
 -- "Numbers are decimal, without leading zeros, at most 32 bits."
 is-number : (w : Bytes) → isNumber w ≡ true → Number (valueOf 0 w) w
 is-number [] e = clash {b = false} e refl
 is-number (b ∷ []) e =
-    let d = digit b e in (
+    let d = digit-says b .0 e in (
       record {
         some = omega arith;
         digits = digits-all (b ∷ []) (rw e);
@@ -67,7 +67,7 @@ is-number (b ∷ c ∷ w) e =
 
 number-is : (n : ℕ) (w : Bytes) → Number n w → (isNumber w ≡ true) × (valueOf 0 w ≡ n)
 number-is n [] h = absurd (omega (arith, h .0 .some))
-number-is n (b ∷ []) h = (is-digit b (h .0 .digits 0 (omega arith)), worth-value (b ∷ []) ∙ h .0 .value)
+number-is n (b ∷ []) h = (digit-says b .1 (h .0 .digits 0 (omega arith)), worth-value (b ∷ []) ∙ h .0 .value)
 number-is n (b ∷ c ∷ w) h =
     let v : valueOf 0 (b ∷ c ∷ w) ≡ n = worth-value (b ∷ c ∷ w) ∙ h .0 .value in
     let z : b ≡ 48 → ⊥ = λ z. omega (arith, h .0 .unpadded z) in
@@ -305,13 +305,13 @@ line-says w l = (
 -- SCRIPTS
 
 -- a line before its feed, and a last line
-lines-fed : (w bs : Bytes) → memb 10 w ≡ false → linesIn (w ++ 10 ∷ bs) ≡ w ∷ linesIn bs
+pub lines-fed : (w bs : Bytes) → memb 10 w ≡ false → linesIn (w ++ 10 ∷ bs) ≡ w ∷ linesIn bs
 lines-fed [] bs n = refl
 lines-fed (b ∷ w) bs n =
     let d = or-false (eqb 10 b) (memb 10 w) n in
     rw (ne-eqb b 10 (λ z. eqb-false 10 b (d .0) (sym z)), lines-fed w bs (d .1))
 
-lines-last : (b : ℕ) (w : Bytes) → memb 10 (b ∷ w) ≡ false → linesIn (b ∷ w) ≡ (b ∷ w) ∷ []
+pub lines-last : (b : ℕ) (w : Bytes) → memb 10 (b ∷ w) ≡ false → linesIn (b ∷ w) ≡ (b ∷ w) ∷ []
 lines-last b [] n = let d = or-false (eqb 10 b) false n in rw (ne-eqb b 10 (λ z. eqb-false 10 b (d .0) (sym z)))
 lines-last b (c ∷ w) n =
     let d = or-false (eqb 10 b) (memb 10 (c ∷ w)) n in

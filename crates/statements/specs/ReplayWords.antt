@@ -5,9 +5,10 @@ use mathlib.Core.List.{List, [], _∷_, _++_}
 use mathlib.Core.Logic.{_≢_, _⊎_}
 use Prim.Native.Nat.{ℕ, suc, _+_, _-_, _*_, _^_, _<_, _≤_}
 use lib.ListN.{length, getD}
-use Rattle.records.specs.Zero.{noWrite, noRead, noIndexRead, zeroTx, noFault}
+use Rattle.records.specs.Zero.{zeroTx, noFault}
 use Rattle.rules.specs.Lists.{memb}
-use Rattle.rules.specs.Types.{Store, Tx, Fault, Schedule, Value, Absent, Key, Cut, Uncut, After, Write, ReadRecord, IndexRead}
+use Rattle.rules.specs.Types.{Store, Tx, Fault, Schedule, Value, Absent, Key, Cut, Uncut, After}
+use Rattle.rules.specs.Faults.{scheduleFit}
 use Rattle.rules.specs.Numbers.{numberOf}
 use Rattle.rules.specs.Calls.{begin, read, write, lookup, rowLock, abort}
 use Rattle.rules.specs.Recovery.{recover}
@@ -197,12 +198,12 @@ pub record Commits (i : ℕ) (logged : Bool) (cut : Cut) (d e : Desk) (o : Out) 
   pub faults : NoFaults (e .plan)
   pub third : o .third ≡ num (commit (d .store) (txOf d i) logged (d .plan) cut .stores)
 
--- a fault more, after those that there are; no more than the array has places, and then it is unfit without it
+-- a fault more, after those that there are; a full list stays as it is, since it is unfit whatever comes
 pub record OneMore (f : Fault) (c more : Schedule) : Type 0 where
   pub count : c .count < 25 → more .count ≡ suc (c .count)
   pub last : c .count < 25 → getD (more .faults) (c .count) noFault ≡ f
   pub others : (j : ℕ) → j < c .count → getD (more .faults) j noFault ≡ getD (c .faults) j noFault
-  pub full : 25 ≤ c .count → more ≡ c
+  pub full : 25 ≤ c .count → (more ≡ c) × (scheduleFit c ≡ false)
   pub places : length (more .faults) ≡ length (c .faults)
 
 -- "F step letter k (for the next C ..)": a fault more, nothing else
