@@ -28,8 +28,11 @@ few-digits n k (b ∷ c ∷ w) h p l =
     by (leb (length (b ∷ c ∷ w)) k)
     (λ t. leb-true _ _ t)
     (λ t. let long : k ≤ length (c ∷ w) = omega (arith, leb-false (length (b ∷ c ∷ w)) k t) in
-    let some : 1 ≤ b - 48 = omega (arith, h .digits 0 (omega arith), h .unpadded) in
-    absurd (omega (arith, h .value, mul-le-mul-right (10 ^ length (c ∷ w)) some, pow-le-pow-right {10} (omega arith) long)))
+    let first : b ≡ 48 → ⊥ = λ z. omega (arith, h .unpadded z) in
+    let some : 1 ≤ b - 48 = omega (arith, h .digits 0 (omega arith), first) in
+    let ten : 0 < 10 = omega arith in
+    let more : 10 ^ k ≤ 10 ^ length (c ∷ w) = pow-le-pow-right ten long in
+    absurd (omega (arith, h .value, mul-le-mul-right (10 ^ length (c ∷ w)) some, more)))
 
 number-few : (n : ℕ) (w : Bytes) → Number n w → length w ≤ digits32
 number-few n w h = few-digits n digits32 w (h .0) (omega arith) (omega (arith, h .1, narrow-written))
