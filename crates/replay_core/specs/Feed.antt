@@ -5,10 +5,10 @@ use mathlib.Core.List.{List, [], _∷_, _++_}
 use Prim.Native.Nat.{ℕ, suc, _+_, _%_, _^_, _<_, _≤_}
 use lib.Dec.{eqb, leb}
 use lib.ListN.{length, take, drop}
+use Rattle.records.specs.Limits.{placeDigits, digits32}
 use Rattle.rules.specs.Replay.{Desk, start, turn}
 use Rattle.rules.specs.Script.{Bytes, split, lineOf, write}
 use Rattle.script.specs.Print.{room}
-use Rattle.script.specs.Text.{longest}
 use Rattle.replay_core.specs.declared.held.Held.{Held}
 use Rattle.replay_core.specs.declared.feed.Replay.{Replay}
 use Rattle.replay_core.specs.declared.feed.Fed.{Fed}
@@ -23,6 +23,10 @@ pub record Reading : Type 0 where
 pub record Part : Type 0 where
   pub state : Reading
   pub answers : Bytes
+
+-- "W place row key" is the longest form: a letter, and three fields, each after a tab
+abbrev pub longest : ℕ
+longest = 1 + (1 + placeDigits) + (1 + digits32) + (1 + digits32)
 
 -- no form has so many bytes, so a longer line is as bad as its beginning
 abbrev pub heldRoom : ℕ

@@ -1,36 +1,26 @@
 -- However a script is cut into parts, the answers are those of the whole script.
 use mathlib.Core.Path.{_≡_, refl, sym, ap, _∙_}
-use mathlib.Core.Bool.{Bool, true, false, not}
+use mathlib.Core.Bool.{true, false}
 use mathlib.Core.List.{List, [], _∷_, _++_, map, append-assoc, append-nil}
 use Prim.Native.Nat.{ℕ, zero, suc, _+_, _^_, _<_}
 use native.Mathlib.Omega.{arith}
 use lib.Dec.{eqb}
 use lib.ListN.{length, take}
-use borrow.Author.Tests.{eqb-true, ne-eqb, not-true}
-use Rattle.rules.specs.Lists.{all, flat}
-use Rattle.basic_laws.specs.Cases.{by, and-true, and-both}
+use borrow.Author.Tests.{eqb-true, eqb-false, ne-eqb}
+use Rattle.rules.specs.Lists.{memb, flat}
+use Rattle.basic_laws.specs.Cases.{by, or-false, or-neither}
 use Rattle.rules.specs.Replay.{Line, Out, Desk, start, turn, replayFrom, replay}
 use Rattle.rules.specs.Script.{Bytes, split, linesIn, lineOf, parse, write, replayText}
 use Rattle.script.specs.PrintLaws.{write-one}
+use Rattle.sentences.specs.ScriptSays.{lines-fed, lines-last}
 use Rattle.replay_core.specs.Feed.{Reading, heldRoom, nextLine, lineEnd, withByte, fedByte, fed, ended, fedAll, first}
 use Rattle.replay_core.specs.FeedLaws.{fed-append}
 use Rattle.replay_core.specs.Long.{held-enough}
 
-abbrev noFeed : Bytes → Bool
-noFeed w = all (λ b. not (eqb b 10)) w
-
--- a line feed after a line without one, and a last line
-lines-feed : (w bs : Bytes) → noFeed w ≡ true → linesIn (w ++ 10 ∷ bs) ≡ w ∷ linesIn bs
-lines-feed [] bs e = refl
-lines-feed (b ∷ w) bs e = let d = and-true (not (eqb b 10)) (noFeed w) e in rw (not-true (eqb b 10) (d .0), lines-feed w bs (d .1))
-
-lines-last : (b : ℕ) (w : Bytes) → noFeed (b ∷ w) ≡ true → linesIn (b ∷ w) ≡ (b ∷ w) ∷ []
-lines-last b [] e = let d = and-true (not (eqb b 10)) true e in rw (not-true (eqb b 10) (d .0))
-lines-last b (c ∷ w) e = let d = and-true (not (eqb b 10)) (noFeed (c ∷ w)) e in rw (not-true (eqb b 10) (d .0), lines-last c w (d .1))
-
-no-feed-more : (w : Bytes) (b : ℕ) → noFeed w ≡ true → eqb b 10 ≡ false → noFeed (w ++ b ∷ []) ≡ true
-no-feed-more [] b e t = rw t
-no-feed-more (c ∷ w) b e t = let d = and-true (not (eqb c 10)) (noFeed w) e in and-both _ _ (d .0) (no-feed-more w b (d .1) t)
+-- one byte more, no line feed either
+no-feed-more : (w : Bytes) (b : ℕ) → memb 10 w ≡ false → eqb b 10 ≡ false → memb 10 (w ++ b ∷ []) ≡ false
+no-feed-more [] b e t = or-neither (eqb 10 b) false (ne-eqb 10 b (λ z. eqb-false b 10 t (sym z))) refl
+no-feed-more (c ∷ w) b e t = let d = or-false (eqb 10 c) (memb 10 w) e in or-neither (eqb 10 c) _ (d .0) (no-feed-more w b (d .1) t)
 
 -- what is held of a longer line
 held-more : (k : ℕ) (w : Bytes) (b : ℕ) → take k (take k w ++ b ∷ []) ≡ take k (w ++ b ∷ [])
@@ -86,11 +76,11 @@ left bs s = fed bs s .answers ++ ended (fed bs s .state)
 abbrev Answered : Bytes → Bytes → Desk → ℕ → Type 0
 Answered bs w d n = left bs (at d w n) ≡ written (suc n) (replayFrom d (map read (linesIn (w ++ bs))))
 
-module _ (b : ℕ) (bs w : Bytes) (d : Desk) (n : ℕ) (e : noFeed w ≡ true) where
+module _ (b : ℕ) (bs w : Bytes) (d : Desk) (n : ℕ) (e : memb 10 w ≡ false) where
   after-feed : eqb b 10 ≡ true → n + length (linesIn (w ++ b ∷ bs)) < 2 ^ 64
       → (n + 1 + length (linesIn bs) < 2 ^ 64 → Answered bs [] (turn (read w) d .desk) (suc n)) → Answered (b ∷ bs) w d n
   after-feed t l k =
-      let z : linesIn (w ++ b ∷ bs) ≡ w ∷ linesIn bs = rw (eqb-true b 10 t) (lines-feed w bs e) in
+      let z : linesIn (w ++ b ∷ bs) ≡ w ∷ linesIn bs = rw (eqb-true b 10 t) (lines-fed w bs e) in
       let c : n + 1 + length (linesIn bs) < 2 ^ 64 = omega (arith, ap length z) in
       let o = turn (read w) d .out in
       let os = replayFrom (turn (read w) d .desk) (map read (linesIn bs)) in
@@ -109,13 +99,13 @@ answered-none : (d : Desk) (n : ℕ) → Answered [] [] d n
 unfolding fed ended written
 answered-none d n = refl
 
-answered-last : (b : ℕ) (w : Bytes) (d : Desk) (n : ℕ) → noFeed (b ∷ w) ≡ true → n + length (linesIn ((b ∷ w) ++ [])) < 2 ^ 64 → Answered [] (b ∷ w) d n
+answered-last : (b : ℕ) (w : Bytes) (d : Desk) (n : ℕ) → memb 10 (b ∷ w) ≡ false → n + length (linesIn ((b ∷ w) ++ [])) < 2 ^ 64 → Answered [] (b ∷ w) d n
 unfolding fed
 answered-last b w d n e l =
     let z : linesIn ((b ∷ w) ++ []) ≡ (b ∷ w) ∷ [] = rw (append-nil w) (lines-last b w e) in
     at-end b w d n ∙ line-answers d (b ∷ w) n (omega (arith, ap length z)) ∙ ap (λ ls. written (suc n) (replayFrom d (map read ls))) (sym z)
 
-answered : (bs w : Bytes) (d : Desk) (n : ℕ) → noFeed w ≡ true → n + length (linesIn (w ++ bs)) < 2 ^ 64 → Answered bs w d n
+answered : (bs w : Bytes) (d : Desk) (n : ℕ) → memb 10 w ≡ false → n + length (linesIn (w ++ bs)) < 2 ^ 64 → Answered bs w d n
 answered [] [] d n e l = answered-none d n
 answered [] (b ∷ w) d n e l = answered-last b w d n e l
 answered (b ∷ bs) w d n e l =

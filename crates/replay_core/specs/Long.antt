@@ -1,83 +1,102 @@
 -- No form has more bytes than the longest, so a longer line is bad, and the bytes that are held of it are bad too.
 use mathlib.Core.Path.{_≡_, refl, sym, ap, _∙_}
 use mathlib.Core.Bool.{Bool, true, false}
-use mathlib.Core.List.{[], _∷_, _++_}
-use Prim.Native.Nat.{ℕ, zero, suc, _+_, _/_, _%_, _^_, _<_, _≤_}
+use mathlib.Core.List.{[], _∷_}
+use mathlib.Core.Logic.{inr}
+use Prim.Native.Nat.{ℕ, suc, _+_, _-_, _^_, _<_, _≤_}
+use native.Mathlib.Nat.{mul-le-mul-right, pow-le-pow-right}
 use native.Mathlib.Omega.{arith}
-use lib.Dec.{ltb, leb}
+use lib.Dec.{leb}
 use lib.ListN.{length, take, length-append, length-take}
 use lib.Seq.{take-all}
-use borrow.Author.Tests.{ltb-true, ltb-false, leb-true, leb-false}
-use Rattle.records.specs.Limits.{keyEnd, placeLimit, placeDigits, digits32, digits64}
+use borrow.Author.Tests.{leb-true, leb-false}
+use Rattle.records.specs.Limits.{placeDigits, digits32}
 use Rattle.records.specs.Relations.{place-written, narrow-written}
 use Rattle.basic_laws.specs.Cases.{by}
 use Rattle.rules.specs.Types.{Value, Absent, Key, Uncut, After}
 use Rattle.rules.specs.Replay.{Line, lineB, lineR, lineW, lineL, lineK, lineA, lineC, lineF, lineV, lineBad}
-use Rattle.rules.specs.Script.{Bytes, split, lineOf, decimal}
-use Rattle.script.specs.Print.{inDecimal}
-use Rattle.script.specs.PrintLaws.{digit-last, digit-more}
-use Rattle.script.specs.Text.{numberText, valueText, modeText, textOf, longest, Key32, Proper}
-use Rattle.script.specs.Accepted.{rejected}
-use Rattle.replay_core.specs.Feed.{heldRoom}
+use Rattle.rules.specs.Script.{Bytes, split, lineOf}
+use Rattle.statements.specs.ReplayWords.{Decimal, Number, Place, KeyOr, Mode, tabbed, IsForm}
+use Rattle.sentences.specs.ScriptSays.{line-says}
+use Rattle.replay_core.specs.Feed.{longest, heldRoom}
 
 -- a number below 10 ^ k has at most k digits
-few-digits : (f k n : ℕ) (rest : Bytes) → 0 < k → n < 10 ^ k → length (decimal f n rest) ≤ k + length rest
-few-digits zero k n rest p l = omega arith
-few-digits (suc f) zero n rest p l = absurd (omega arith)
-few-digits (suc f) (suc zero) n rest p l = rw (digit-last (suc f) n rest (omega arith) (omega arith)) (omega arith)
-few-digits (suc f) (suc (suc k)) n rest p l =
-    by (ltb n 10)
-    (λ t. rw (digit-last (suc f) n rest (omega arith) (ltb-true _ _ t)) (omega arith))
-    (λ t. rw (digit-more (suc f) f n rest refl (ltb-false _ _ t))
-    (omega (arith, few-digits f (suc k) (n / 10) ((48 + n % 10) ∷ rest) (omega arith) (omega arith))))
+few-digits : (n k : ℕ) (w : Bytes) → Decimal n w → 0 < k → n < 10 ^ k → length w ≤ k
+few-digits n k [] h p l = omega arith
+few-digits n k (b ∷ []) h p l = omega arith
+few-digits n k (b ∷ c ∷ w) h p l =
+    by (leb (length (b ∷ c ∷ w)) k)
+    (λ t. leb-true _ _ t)
+    (λ t. let long : k ≤ length (c ∷ w) = omega (arith, leb-false (length (b ∷ c ∷ w)) k t) in
+    let first : b ≡ 48 → ⊥ = λ z. omega (arith, h .unpadded z) in
+    let some : 1 ≤ b - 48 = omega (arith, h .digits 0 (omega arith), first) in
+    let ten : 0 < 10 = omega arith in
+    let more : 10 ^ k ≤ 10 ^ length (c ∷ w) = pow-le-pow-right ten long in
+    absurd (omega (arith, h .value, mul-le-mul-right (10 ^ length (c ∷ w)) some, more)))
 
-number-few : (n : ℕ) → n < keyEnd → length (numberText n) ≤ digits32
-unfolding inDecimal
-number-few n h = few-digits digits64 digits32 n [] (omega arith) (omega (arith, narrow-written))
+number-few : (n : ℕ) (w : Bytes) → Number n w → length w ≤ digits32
+number-few n w h = few-digits n digits32 w (h .0) (omega arith) (omega (arith, h .1, narrow-written))
 
-place-few : (i : ℕ) → i < placeLimit → length (numberText i) ≤ placeDigits
-unfolding inDecimal
-place-few i h = few-digits digits64 placeDigits i [] (omega arith) (omega (arith, place-written))
+place-few : (i : ℕ) (w : Bytes) → Place i w → length w ≤ placeDigits
+place-few i w h = few-digits i placeDigits w (h .0) (omega arith) (omega (arith, h .1, place-written))
 
-value-few : (v : Value) → Key32 v → length (valueText v) ≤ digits32
-value-few Absent h = omega arith
-value-few (Key k) h = number-few k h
+value-few : (v : Value) (w : Bytes) → KeyOr v w → length w ≤ digits32
+value-few Absent w h = omega (arith, ap length h)
+value-few (Key k) w h = number-few k w h
 
-mode-one : (m : Bool) → length (modeText m) ≡ 1
-mode-one false = refl
-mode-one true = refl
+mode-one : (m : Bool) (w : Bytes) → Mode m w → length w ≡ 1
+mode-one false w h = ap length h
+mode-one true w h = ap length h
 
-text-short : (l : Line) → Proper l → length (textOf l) ≤ longest
-text-short (lineB i) p = omega (arith, place-few i p)
-text-short (lineR i r) p = omega (arith, length-append (numberText i) (9 ∷ numberText r), place-few i (p .0), number-few r (p .1))
-text-short (lineW i r v) p =
+-- fields, each after a tab
+one-long : (p : Bytes) → length (tabbed (p ∷ [])) ≡ suc (length p)
+one-long p = omega (arith, length-append p [])
+
+two-long : (p q : Bytes) → length (tabbed (p ∷ q ∷ [])) ≡ suc (length p) + suc (length q)
+two-long p q = omega (arith, length-append p (tabbed (q ∷ [])), one-long q)
+
+three-long : (p q s : Bytes) → length (tabbed (p ∷ q ∷ s ∷ [])) ≡ suc (length p) + (suc (length q) + suc (length s))
+three-long p q s = omega (arith, length-append p (tabbed (q ∷ s ∷ [])), two-long q s)
+
+form-short : (l : Line) (w : Bytes) → IsForm l w → length w ≤ longest
+form-short (lineB i) w h = omega (arith, ap length (h .1), one-long (h .0), place-few i (h .0) (h .2))
+form-short (lineR i r) w h = omega (arith, ap length (h .2), two-long (h .0) (h .1), place-few i (h .0) (h .3), number-few r (h .1) (h .4))
+form-short (lineW i r v) w h =
     omega (
       arith,
-      length-append (numberText i) (9 ∷ numberText r ++ 9 ∷ valueText v),
-      length-append (numberText r) (9 ∷ valueText v),
-      place-few i (p .0),
-      number-few r (p .1),
-      value-few v (p .2),
+      ap length (h .3),
+      three-long (h .0) (h .1) (h .2),
+      place-few i (h .0) (h .4),
+      number-few r (h .1) (h .5),
+      value-few v (h .2) (h .6),
     )
-text-short (lineL i k) p = omega (arith, length-append (numberText i) (9 ∷ numberText k), place-few i (p .0), number-few k (p .1))
-text-short (lineK i r) p = omega (arith, length-append (numberText i) (9 ∷ numberText r), place-few i (p .0), number-few r (p .1))
-text-short (lineA i) p = omega (arith, place-few i p)
-text-short (lineC i m Uncut) p = omega (arith, length-append (numberText i) (9 ∷ modeText m), place-few i (p .0), mode-one m)
-text-short (lineC i m (After n)) p =
+form-short (lineL i k) w h = omega (arith, ap length (h .2), two-long (h .0) (h .1), place-few i (h .0) (h .3), number-few k (h .1) (h .4))
+form-short (lineK i r) w h = omega (arith, ap length (h .2), two-long (h .0) (h .1), place-few i (h .0) (h .3), number-few r (h .1) (h .4))
+form-short (lineA i) w h = omega (arith, ap length (h .1), one-long (h .0), place-few i (h .0) (h .2))
+form-short (lineC i m Uncut) w h = omega (arith, ap length (h .2), two-long (h .0) (h .1), place-few i (h .0) (h .3), mode-one m (h .1) (h .4))
+form-short (lineC i m (After n)) w h =
     omega (
       arith,
-      length-append (numberText i) (9 ∷ modeText m ++ 9 ∷ numberText n),
-      length-append (modeText m) (9 ∷ numberText n),
-      place-few i (p .0),
-      mode-one m,
-      number-few n (p .1),
+      ap length (h .3),
+      three-long (h .0) (h .1) (h .2),
+      place-few i (h .0) (h .4),
+      mode-one m (h .1) (h .5),
+      number-few n (h .2) (h .6),
     )
-text-short (lineF n b k) p = omega (arith, length-append (numberText n) (9 ∷ b ∷ 9 ∷ numberText k), number-few n (p .0), number-few k (p .3))
-text-short lineV p = omega arith
-text-short lineBad p = absurd p
+form-short (lineF n b k) w h =
+    omega (
+      arith,
+      ap length (h .3),
+      three-long (h .0) (h .1) (h .2),
+      number-few n (h .0) (h .4),
+      ap length (h .5 .0),
+      number-few k (h .2) (h .6),
+    )
+form-short lineV w h = omega (arith, ap length h)
+form-short lineBad w h = absurd h
 
 pub long-bad : (w : Bytes) → longest < length w → lineOf (split 9 w) ≡ lineBad
-long-bad w h = rejected w .1 (λ l p e. omega (arith, text-short l p, ap length e))
+long-bad w h = line-says w lineBad .1 (inr (refl, λ l f. omega (arith, form-short l w f)))
 
 -- so the bytes that are held tell what the line is
 pub held-enough : (w : Bytes) → lineOf (split 9 (take heldRoom w)) ≡ lineOf (split 9 w)

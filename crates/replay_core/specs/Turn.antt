@@ -1,13 +1,14 @@
 -- One line at one place: what it makes of the store, of its place's transaction and of the pending faults.
 use mathlib.Core.Path.{_≡_, refl, sym}
 use mathlib.Core.List.{[], _∷_}
+use mathlib.Core.Logic.{⊎-elim}
 use Prim.Native.Nat.{ℕ, _<_}
 use native.Mathlib.Omega.{arith}
 use lib.ListN.{set}
 use lib.Seq.{set-getD}
 use Rattle.records.specs.Limits.{placeLimit}
 use Rattle.records.specs.Zero.{zeroTx}
-use Rattle.rules.specs.Types.{Store, Tx, Schedule}
+use Rattle.rules.specs.Types.{Store, Tx, Schedule, Uncut, After}
 use Rattle.basic_laws.specs.Cases.{by}
 use Rattle.rules.specs.Numbers.{numberOf, isDone}
 use Rattle.rules.specs.Calls.{begin}
@@ -16,8 +17,8 @@ use Rattle.rules.specs.Replay.{Line, lineB, lineR, lineW, lineL, lineK, lineA, 
 use Rattle.rules.specs.Replay.{lineBad, Third, num, Desk, Turn, says, txAt, withFault, turn}
 use Rattle.rules.specs.Script.{Bytes, split, lineOf}
 use Rattle.script.specs.Print.{thirdOf}
-use Rattle.script.specs.Text.{PlaceBelow}
-use Rattle.script.specs.Accepted.{place-below}
+use Rattle.statements.specs.ReplayWords.{IsForm}
+use Rattle.sentences.specs.ScriptSays.{line-says}
 use Rattle.replay_core.specs.declared.turn.Turned.{Turned}
 
 -- the place that a line names; the first for a line that names none
@@ -90,17 +91,18 @@ turn-alone lineV d =
 turn-alone lineBad d = λ j. record { desk = same-desk d 0 j; out = says 2 (num 0) }
 
 -- a line that is read names one of the places
-below : (l : Line) → PlaceBelow l → placeIn l < placeLimit
-below (lineB i) h = h
-below (lineR i r) h = h
-below (lineW i r v) h = h
-below (lineL i k) h = h
-below (lineK i r) h = h
-below (lineA i) h = h
-below (lineC i m c) h = h
-below (lineF n b k) h = omega arith
-below lineV h = omega arith
-below lineBad h = omega arith
+below : (l : Line) (w : Bytes) → IsForm l w → placeIn l < placeLimit
+below (lineB i) w h = omega (arith, h .2 .1)
+below (lineR i r) w h = omega (arith, h .3 .1)
+below (lineW i r v) w h = omega (arith, h .4 .1)
+below (lineL i k) w h = omega (arith, h .3 .1)
+below (lineK i r) w h = omega (arith, h .3 .1)
+below (lineA i) w h = omega (arith, h .2 .1)
+below (lineC i m Uncut) w h = omega (arith, h .3 .1)
+below (lineC i m (After n)) w h = omega (arith, h .4 .1)
+below (lineF n b k) w h = omega arith
+below lineV w h = omega arith
+below lineBad w h = omega arith
 
 pub place-in-below : (w : Bytes) {l : Line} {p : ℕ} → l ≡ lineOf (split 9 w) → p ≡ placeIn l → p < placeLimit
-place-in-below w {l} e q = rw q (below l (place-below w l (sym e)))
+place-in-below w {l} e q = rw q (⊎-elim (below l w) (λ b. rw (b .0) (omega arith)) (line-says w l .0 (sym e)))

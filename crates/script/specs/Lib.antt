@@ -7,9 +7,3 @@ pub mod FieldLaws
 pub mod LineForms
 pub mod Split
 pub mod PrintLaws
--- Which texts are read, and as what.
-pub mod Decimal
-pub mod Text
-pub mod Tabs
-pub mod OnlyText
-pub mod Accepted

@@ -7,7 +7,9 @@ pub mod CallsSay
 pub mod ReadsSay
 -- "Steps and faults"
 pub mod StepsSay
--- "Replay"
+-- "Replay": its bytes; its lines; and a table of both, computed
+pub mod ScriptSays
 pub mod ReplaySays
+pub mod ReplayTable
 -- "Mornings at a limit" and the example of "Replay", computed
 pub mod Mornings
