@@ -188,6 +188,20 @@ index-reads-alone x l b h = (kept-all, laid-out indexReadLimit (indexReadOf 0 0)
       «savepoint_count» = refl;
     }
 
+-- the one after the other
+pub kept-both : {x y z : Tx} → Kept x y → Kept y z → Kept x z
+kept-both a b = record {
+  txid = b .txid ∙ a .txid;
+  «snapshot_xmin» = b .«snapshot_xmin» ∙ a .«snapshot_xmin»;
+  «snapshot_xmax» = b .«snapshot_xmax» ∙ a .«snapshot_xmax»;
+  snapshot = b .snapshot ∙ a .snapshot;
+  «snapshot_count» = b .«snapshot_count» ∙ a .«snapshot_count»;
+  writes = b .writes ∙ a .writes;
+  «write_count» = b .«write_count» ∙ a .«write_count»;
+  savepoints = b .savepoints ∙ a .savepoints;
+  «savepoint_count» = b .«savepoint_count» ∙ a .«savepoint_count»;
+}
+
 -- "and the stripe's stamp once per stripe"
 pub stamp-says : (i t : ℕ) (l : List IndexRead) → Stamping i t l (recordStamp i t l)
 stamp-says i t l = by (any (ofStripe i) l) (λ e. rw e (known e)) (λ e. rw e (new e))
