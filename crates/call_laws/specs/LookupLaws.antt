@@ -2,17 +2,17 @@
 -- ReadWords.
 use mathlib.Core.Path.{_≡_, refl, sym, ap, _∙_}
 use mathlib.Core.Bool.{Bool, true, false, not, _&&_, _||_}
-use mathlib.Core.List.{List, [], _∷_, _++_, map}
+use mathlib.Core.List.{List, [], _∷_, map}
 use mathlib.Core.Logic.{_↔_, _⊎_, inl, inr, ⊎-elim}
 use Prim.Native.Nat.{ℕ, _≤_, _<_}
 use native.Mathlib.Omega.{arith}
-use lib.ListN.{length, getD, length-map}
+use lib.ListN.{length, length-map}
 use lib.Dec.{eqb, ltb}
 use borrow.Author.Tests.{eqb-false, ne-eqb, ltb-true, lt-ltb, le-leb, not-true}
 use Rattle.records.specs.Limits.{rows, readLimit, indexReadLimit}
 use Rattle.records.specs.Relations.{stripes-read, stripes-some}
 use Rattle.records.specs.Zero.{noRead, noIndexRead}
-use Rattle.rules.specs.Lists.{any, memb, rising}
+use Rattle.rules.specs.Lists.{any, memb}
 use Rattle.rules.specs.Types.{Store, Tx, ReadRecord, IndexRead, Key}
 use Rattle.rules.specs.Store.{posting, valueAt, stripeOf, postingsOf}
 use Rattle.rules.specs.Transaction.{writesOf, readsOf, indexReadsOf, sees, withReads}

@@ -8,13 +8,13 @@ use native.Mathlib.Omega.{arith}
 use lib.ListN.{length, getD}
 use lib.Dec.{eqb, ltb}
 use borrow.Author.Tests.{eqb-true, eqb-false, eq-eqb, ne-eqb, ltb-true, lt-ltb, lt-leb, not-true}
-use Rattle.records.specs.Limits.{rows, readLimit}
+use Rattle.records.specs.Limits.{rows, places, readLimit}
 use Rattle.records.specs.Zero.{noWrite}
 use Rattle.rules.specs.Lists.{all, any, memb, nonzero, firstOf}
-use Rattle.rules.specs.Types.{Store, Tx, Write, ReadRecord, Seen, Value, Absent}
-use Rattle.rules.specs.Store.{valueAt, activeTxids}
-use Rattle.rules.specs.Transaction.{writesOf, readsOf, sees, lastOwn, withReads}
-use Rattle.rules.specs.Chains.{walk}
+use Rattle.rules.specs.Types.{Store, Tx, Write, ReadRecord, Value, Absent}
+use Rattle.rules.specs.Store.{valueAt}
+use Rattle.rules.specs.Transaction.{writesOf, readsOf, sees, lastOwn}
+use Rattle.rules.specs.Chains.{chainFrom, walk}
 use Rattle.rules.specs.Fit.{fit, writeFit}
 use Rattle.rules.specs.Numbers.{numberOf}
 use Rattle.rules.specs.Calls.{visibleVersion, readPtr, recordRead, read}
@@ -22,7 +22,7 @@ use Rattle.basic_laws.specs.Cases.{by, clash, and-true, or-true, or-false, or-n
 use Rattle.basic_laws.specs.Chain.{chain-below}
 use Rattle.basic_laws.specs.Chained.{chained-from}
 use Rattle.statements.specs.Sized.{Sized}
-use Rattle.statements.specs.ReadWords.{VisibleAt, FirstIn, NoneIn, LastOf, ofRow, ofPtr, readOf, HasValue, Reading, own, found, known, absent}
+use Rattle.statements.specs.ReadWords.{VisibleAt, FirstIn, NoneIn, itsWrites, LastOf, ofRow, ofPtr, readOf, Reading, own, found, known, absent}
 use Rattle.statements.specs.ReadWords.{Reads, ReadTooMany}
 use Rattle.basic_laws.specs.TestParts.{fit-parts, write-parts}
 use Rattle.basic_laws.specs.Rising.{unique}
@@ -107,23 +107,36 @@ module _ (S : Store) (x : Tx) (L : ℕ → List ℕ) (z : Sized S) (R : Rests S 
   pub no-value : valueAt (S .key) (S .has) 0 ≡ Absent
   no-value = rw (R .mends .slots .free 0 (R .mends .slots .first) .empty)
 
-  -- the pointer that is read: the last own write's, else the first visible version's
-  own-ptr : (r : ℕ) → any (ofRow r) (writesOf x) ≡ true → LastOf r (writesOf x) (lastOwn r (writesOf x)) × (eqb (lastOwn r (writesOf x) .new .0) 0 ≡ false)
-  own-ptr r e =
-      let o = last-of r (writesOf x) writes-taken e in
-      (o .0, nonzero-ne (lastOwn r (writesOf x) .new .0) (o .1))
+  -- the chain that the definition walks is the row's
+  row-chain : (r : ℕ) → r < rows → chainFrom places (S .next) (getD (S .heads) r 0) ≡ L r
+  row-chain r lt = chained-from (S .heads) (S .next) (walk (S .heads) (S .next) .seen) L (marks S L z (R .mends)) r (omega (arith, z .heads))
 
-  -- an own write is read
-  ptr-own : (r : ℕ) → any (ofRow r) (writesOf x) ≡ true → readPtr S x r ≡ lastOwn r (writesOf x) .new .0
+  -- "the last own write of the row": its slot is read, which is not 0
+  pub own-read : (r : ℕ) (w : Write) → LastOf r (itsWrites x) w → (readPtr S x r ≡ w .new .0) × (lastOwn r (writesOf x) ≡ w) × (eqb (w .new .0) 0 ≡ false)
   unfolding readPtr
-  ptr-own r e = rw (own-ptr r e .1)
+  own-read r w o =
+      let i = last-is r (o .before) w (o .after) (rw (o .split) at writes-taken) (o .row) (o .none) in
+      let e : lastOwn r (writesOf x) ≡ w = rw (o .split) (i .0) in
+      let n = nonzero-ne (w .new .0) (i .1) in
+      (rw (e, n), e, n)
 
-  -- else the first visible version is
-  ptr-else : (r : ℕ) → r < rows → any (ofRow r) (writesOf x) ≡ false → readPtr S x r ≡ firstOf (visibleAt S x) (L r)
+  -- "else the first chain version with a visible creator"
+  pub first-read : (r p : ℕ) → r < rows → any (ofRow r) (itsWrites x) ≡ false → FirstIn (VisibleAt S x) (L r) p → readPtr S x r ≡ p
   unfolding readPtr visibleVersion
-  ptr-else r lt e = rw (
+  first-read r p lt e F = rw (
     last-none r (writesOf x) e,
-    chained-from (S .heads) (S .next) (walk (S .heads) (S .next) .seen) L (marks S L z (R .mends)) r (omega (arith, z .heads)),
+    row-chain r lt,
+    F .split,
+    first-one (visibleAt S x) (VisibleAt S x) (at-says S x) (F .before) p (F .after) (F .none) (F .passes),
+  )
+
+  -- else none
+  pub none-read : (r : ℕ) → r < rows → any (ofRow r) (itsWrites x) ≡ false → NoneIn (VisibleAt S x) (L r) → readPtr S x r ≡ 0
+  unfolding readPtr visibleVersion
+  none-read r lt e n = rw (
+    last-none r (writesOf x) e,
+    row-chain r lt,
+    first-none (visibleAt S x) (L r) (meant-none (visibleAt S x) (VisibleAt S x) (at-says S x) (L r) n),
   )
 
   -- a version found on a chain is no null pointer
@@ -140,47 +153,32 @@ module _ (S : Store) (x : Tx) (L : ℕ → List ℕ) (z : Sized S) (R : Rests S 
   reading r l lt =
       let v = visibleAt S x in
       by (any (ofRow r) (writesOf x))
-      (λ e. let o = own-ptr r e in
-      rw (ptr-own r e, o .1) (own (lastOwn r (writesOf x)) (o .0) (value-says S (lastOwn r (writesOf x) .new .0))))
-      (λ e. rw (ptr-else r lt e, last-none r (writesOf x) e)
-      (by (any v (L r))
+      (λ e. let w = lastOwn r (writesOf x) in
+      let o = last-of r (writesOf x) writes-taken e .0 in
+      let i = own-read r w o in
+      rw (i .0, i .2) (own w o (value-says S (w .new .0))))
+      (λ e. by (any v (L r))
       (λ s. let F = first-of S x (L r) s in
       let p = firstOf v (L r) in
       by (any (ofPtr p) l)
-      (λ k. rw (found-some r p lt F, k) (known p e F k (value-says S p)))
-      (λ k. rw (found-some r p lt F, k) (found p e F k (value-says S p))))
-      (λ s. rw (first-none v (L r) s) (absent e (none-of S x (L r) s) no-value))))
-
-  -- the pointer, from what a reading says
-  ptr-last : (r : ℕ) (w : Write) → lastOwn r (writesOf x) ≡ w → taken w ≡ true → readPtr S x r ≡ w .new .0
-  unfolding readPtr
-  ptr-last r w e t = rw (e, nonzero-ne (w .new .0) t)
-
-  ptr-first : (r p : ℕ) → r < rows → any (ofRow r) (writesOf x) ≡ false → FirstIn (VisibleAt S x) (L r) p → readPtr S x r ≡ p
-  ptr-first r p lt e F =
-      ptr-else r lt e
-      ∙ rw (F .split) (first-one (visibleAt S x) (VisibleAt S x) (at-says S x) (F .before) p (F .after) (F .none) (F .passes))
-
-  ptr-none : (r : ℕ) → r < rows → any (ofRow r) (writesOf x) ≡ false → NoneIn (VisibleAt S x) (L r) → readPtr S x r ≡ 0
-  ptr-none r lt e n =
-      ptr-else r lt e ∙ first-none (visibleAt S x) (L r) (meant-none (visibleAt S x) (VisibleAt S x) (at-says S x) (L r) n)
+      (λ k. rw (first-read r p lt e F, last-none r (writesOf x) e, found-some r p lt F, k) (known p e F k (value-says S p)))
+      (λ k. rw (first-read r p lt e F, last-none r (writesOf x) e, found-some r p lt F, k) (found p e F k (value-says S p))))
+      (λ s. let n = none-of S x (L r) s in rw (none-read r lt e n) (absent e n no-value)))
 
   -- and nothing else is: a reading has one value and one list of reads
   pub reading-one : (r : ℕ) (l m : List ReadRecord) (v : Value) → r < rows → Reading S x r (L r) l v m
       → (v ≡ valueAt (S .key) (S .has) (readPtr S x r)) × (m ≡ recordRead S x r l)
   unfolding recordRead
   reading-one r l m v lt (own w o h) =
-      let i = last-is r (o .before) w (o .after) (rw (o .split) at writes-taken) (o .row) (o .none) in
-      let e : lastOwn r (writesOf x) ≡ w = rw (o .split) (i .0) in
-      let p = ptr-last r w e (i .1) in
-      (rw p (value-one S (w .new .0) v h), rw (p, e, nonzero-ne (w .new .0) (i .1)))
+      let i = own-read r w o in
+      (rw (i .0) (value-one S (w .new .0) v h), rw (i .0, i .1, i .2))
   reading-one r l m v lt (found p e F k h) =
-      let q = ptr-first r p lt e F in
+      let q = first-read r p lt e F in
       (rw q (value-one S p v h), rw (q, last-none r (writesOf x) e, found-some r p lt F, k))
   reading-one r l m v lt (known p e F k h) =
-      let q = ptr-first r p lt e F in
+      let q = first-read r p lt e F in
       (rw q (value-one S p v h), rw (q, last-none r (writesOf x) e, found-some r p lt F, k))
-  reading-one r l m v lt (absent e n h) = let q = ptr-none r lt e n in (rw q (h ∙ sym no-value), rw q)
+  reading-one r l m v lt (absent e n h) = let q = none-read r lt e n in (rw q (h ∙ sym no-value), rw q)
 
 -- an accepted read gives that value and those reads, and changes nothing else
 pub read-gives : (S : Store) (x : Tx) (L : ℕ → List ℕ) → Sized S → Rests S L → (r : ℕ) → numberOf (read S x r .refusal) ≡ 0

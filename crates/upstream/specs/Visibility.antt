@@ -10,12 +10,12 @@ use native.Mathlib.Omega.{arith}
 use lib.ListN.{length, getD, set}
 use lib.Dec.{eqb, ltb, leb}
 use borrow.Author.Tests.{eqb-true, eqb-false, eq-eqb, ne-eqb, ltb-true, ltb-false, lt-ltb, leb-true, le-leb, not-true}
-use Rattle.records.specs.Limits.{rows, places, activeLimit, postingLimit}
+use Rattle.records.specs.Limits.{rows, places, activeLimit}
 use Rattle.records.specs.Zero.{fresh, zeroTx}
 use Rattle.rules.specs.Lists.{any, memb, pad, firstOf}
 use Rattle.rules.specs.Types.{Store, Tx, ReadRecord, Value, Key, Done}
 use Rattle.rules.specs.Store.{posting, valueAt, activeTxids}
-use Rattle.rules.specs.Transaction.{snapshotOf, sees}
+use Rattle.rules.specs.Transaction.{snapshotOf}
 use Rattle.rules.specs.Chains.{chainFrom, walk}
 use Rattle.rules.specs.Admitted.{finished, resting}
 use Rattle.rules.specs.Fit.{fit}
@@ -32,13 +32,13 @@ use Rattle.basic_laws.specs.Rising.{rising-from}
 use Rattle.basic_laws.specs.TestParts.{fit-parts}
 use Rattle.statements.specs.Sized.{Sized}
 use Rattle.statements.specs.ReadWords.{InSnapshot, Visible, VisibleAt, NoneIn, FirstIn, readOf, Kept, Reading, own, found, known, absent, InTurn, done, next}
-use Rattle.sentences.specs.ReadsSay.{in-snapshot, sees-says, none-meant, meant-none, first-says, first-one}
+use Rattle.sentences.specs.ReadsSay.{in-snapshot, meant-none, first-one}
 use Rattle.admitted_laws.specs.Repairable.{marks}
 use Rattle.admitted_laws.specs.Resting.{Rests, rests}
 use Rattle.recovery_laws.specs.Start.{tails}
 use Rattle.call_laws.specs.Refusals.{begin-accepted, write-accepted}
 use Rattle.call_laws.specs.Passed.{begin-passed}
-use Rattle.call_laws.specs.ReadLaws.{visibleAt, at-says, first-of, none-of, first-none, mem-mid}
+use Rattle.call_laws.specs.ReadLaws.{visibleAt, first-of, none-of, first-none, mem-mid}
 
 -- UPSTREAM'S TEST
 
