@@ -11,16 +11,17 @@ use lib.ListN.{length, getD, set}
 use lib.Dec.{eqb, ltb, leb}
 use borrow.Author.Tests.{eqb-true, eqb-false, eq-eqb, ne-eqb, ltb-true, ltb-false, lt-ltb, leb-true, le-leb, not-true}
 use Rattle.records.specs.Limits.{rows, places, activeLimit}
-use Rattle.records.specs.Zero.{fresh, zeroTx}
+use Rattle.records.specs.Zero.{fresh, zeroTx, noFaults}
 use Rattle.rules.specs.Lists.{any, memb, pad, firstOf}
-use Rattle.rules.specs.Types.{Store, Tx, ReadRecord, Value, Key, Done}
+use Rattle.rules.specs.Types.{Store, Tx, Write, ReadRecord, Value, Absent, Key, Uncut, Done}
 use Rattle.rules.specs.Store.{posting, valueAt, activeTxids}
-use Rattle.rules.specs.Transaction.{snapshotOf}
+use Rattle.rules.specs.Transaction.{snapshotOf, withReads}
 use Rattle.rules.specs.Chains.{chainFrom, walk}
 use Rattle.rules.specs.Admitted.{finished, resting}
 use Rattle.rules.specs.Fit.{fit}
 use Rattle.rules.specs.Numbers.{numberOf}
 use Rattle.rules.specs.Calls.{begun, begin, visibleVersion, read, write}
+use Rattle.rules.specs.Answer.{commit}
 use Rattle.rules.specs.Computing.{computing}
 use Rattle.basic_laws.specs.Cases.{by, clash, and-true, and-both, or-true, or-left, or-right, mem-here, mem-there}
 use Rattle.basic_laws.specs.Check.{Tail}
@@ -31,7 +32,8 @@ use Rattle.basic_laws.specs.Places.{Rising, is-rising}
 use Rattle.basic_laws.specs.Rising.{rising-from}
 use Rattle.basic_laws.specs.TestParts.{fit-parts}
 use Rattle.statements.specs.Sized.{Sized}
-use Rattle.statements.specs.ReadWords.{InSnapshot, Visible, VisibleAt, NoneIn, FirstIn, readOf, Kept, Reading, own, found, known, absent, InTurn, done, next}
+use Rattle.statements.specs.ReadWords.{InSnapshot, Visible, VisibleAt, NoneIn, FirstIn, LastOf, ofRow, itsWrites, HasValue}
+use Rattle.statements.specs.ReadWords.{readOf, Kept, Reading, own, found, known, absent, InTurn, done, next}
 use Rattle.sentences.specs.ReadsSay.{in-snapshot, meant-none, first-one}
 use Rattle.admitted_laws.specs.Repairable.{marks}
 use Rattle.admitted_laws.specs.Resting.{Rests, rests}
@@ -230,7 +232,13 @@ module _ (S : Store) (x : Tx) (below : NoneBelow x) (f : fit S x ≡ true) where
     version-same z =
         rw (chained-from (S .heads) (S .next) (walk (S .heads) (S .next) .seen) L (marks S L z (R .mends)) r lt) (sym same-first)
 
--- WHAT IS RECORDED
+-- WHAT IS READ AND RECORDED
+
+-- `selected_value`: the value of the last own write, else of the first version that upstream sees, else none
+pub data Selected (S : Store) (x : Tx) (c : List ℕ) (r : ℕ) (v : Value) : Type 0 where
+  written : (w : Write) → LastOf r (itsWrites x) w → HasValue S (w .new .0) v → Selected S x c r v
+  seen : (p : ℕ) → any (ofRow r) (itsWrites x) ≡ false → FirstIn (SeenUpstream S x) c p → HasValue S p v → Selected S x c r v
+  neither : any (ofRow r) (itsWrites x) ≡ false → NoneIn (SeenUpstream S x) c → v ≡ Absent → Selected S x c r v
 
 -- `observed_record`: the record of a version that upstream sees first in its row, with its xmin
 pub record Observed (S : Store) (x : Tx) (L : ℕ → List ℕ) (e : ReadRecord) : Type 0 where
@@ -249,6 +257,14 @@ module _ (S : Store) (x : Tx) (L : ℕ → List ℕ) (z : Sized S) (R : Rests S 
   abbrev pub Extends : List ReadRecord → List ReadRecord → Type 0
   Extends l m = (new : List ReadRecord) × (m ≡ l ++ new) × Each (Observed S x L) new
 
+  -- a read gives the value that upstream selects
+  pub reading-selected : {l m : List ReadRecord} {v : Value} (r : ℕ) → r < rows → Reading S x r (L r) l v m → Selected S x (L r) r v
+  reading-selected r lt (own w o h) = written w o h
+  reading-selected r lt (found p n F k h) = seen p n (first-then S x below f L R healthy r (omega (arith, z .heads)) p F) h
+  reading-selected r lt (known p n F k h) = seen p n (first-then S x below f L R healthy r (omega (arith, z .heads)) p F) h
+  reading-selected r lt (absent n k h) = neither n (none-then S x below f L R healthy r (omega (arith, z .heads)) k) h
+
+  -- one reading more
   pub reading-observed : {l m : List ReadRecord} {v : Value} (r : ℕ) → r < rows → Reading S x r (L r) l v m → Extends l m
   reading-observed {l} r lt (own w o h) = ([], sym (append-nil l), tt)
   reading-observed {l} r lt (known p n F k h) = ([], sym (append-nil l), tt)
@@ -354,3 +370,15 @@ pub apart : (resting moved ≡ true)
     × (valueAt (moved .key) (moved .has) 2 ≡ Key 20)
 unfolding moved odd computing
 apart = (refl, refl, refl, refl, refl, refl)
+
+-- the same transaction with a read record that points at slot 7, which is free, and says xmin t
+unfoldable pub pointing : ℕ → Tx
+pointing t = withReads (readOf 0 7 t ∷ []) odd
+
+-- `has_serialization_conflict` asks for no such record; here it is fit, and commits where it says that the slot is free; else its xmin has changed
+pub free-read : (fit moved (pointing 0) ≡ true)
+    × (commit moved (pointing 0) false noFaults Uncut .refusal ≡ Done)
+    × (fit moved (pointing 3) ≡ true)
+    × (numberOf (commit moved (pointing 3) false noFaults Uncut .refusal) ≡ 7)
+unfolding moved odd pointing computing
+free-read = (refl, refl, refl, refl)
