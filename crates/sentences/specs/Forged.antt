@@ -2,9 +2,9 @@
 use mathlib.Core.Path.{_≡_, refl}
 use mathlib.Core.Bool.{Bool, true, false}
 use mathlib.Core.List.{List, [], _∷_, _++_, map}
-use Prim.Native.Nat.{ℕ, _+_, _*_}
+use Prim.Native.Nat.{ℕ, _+_, _*_, _%_}
 use lib.ListN.{length, getD, set, take}
-use Rattle.records.specs.Limits.{rows, activeLimit}
+use Rattle.records.specs.Limits.{rows, stripes, activeLimit}
 use Rattle.records.specs.Zero.{fresh, zeroTx}
 use Rattle.rules.specs.Lists.{pad}
 use Rattle.rules.specs.Types.{Store, Tx, Value, Absent, Key}
@@ -56,7 +56,7 @@ layered t = record {
   «posting_count» = 1;
   «stripe_guards» = fresh .«stripe_guards»;
   «partition_guards» = fresh .«partition_guards»;
-  stamps = set (fresh .stamps) 14 t;
+  stamps = set (fresh .stamps) (30 % stripes) t;
   active = set (fresh .active) 0 9;
   clock = 12;
   poisoned = false;

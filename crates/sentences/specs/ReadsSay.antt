@@ -18,7 +18,7 @@ use Rattle.rules.specs.Calls.{recordStamp}
 use Rattle.basic_laws.specs.Cases.{by, clash, and-true, and-both, or-true, or-false, or-left, or-right, mem-here, mem-there}
 use Rattle.basic_laws.specs.Members.{at-mem, mem-at}
 use Rattle.basic_laws.specs.LaidOut.{pad-length}
-use Rattle.statements.specs.ReadWords.{InSnapshot, Visible, NoneIn, FirstIn, HasValue, LaidOut, Kept, Stamping, new, known}
+use Rattle.statements.specs.ReadWords.{InSnapshot, Visible, NoneIn, FirstIn, HasValue, LaidOut, Kept, Stamping, added, there}
 use Rattle.statements.specs.ReadWords.{readOf, indexReadOf, ofStripe}
 
 -- VISIBILITY
@@ -175,4 +175,4 @@ kept-both a b = record {
 
 -- "and the stripe's stamp once per stripe"
 pub stamp-says : (i t : ℕ) (l : List IndexRead) → Stamping i t l (recordStamp i t l)
-stamp-says i t l = by (any (ofStripe i) l) (λ e. rw e (known e)) (λ e. rw e (new e))
+stamp-says i t l = by (any (ofStripe i) l) (λ e. rw e (there e)) (λ e. rw e (added e))

@@ -162,8 +162,8 @@ AllRead S x (r ∷ rs) = (numberOf (read S x r .refusal) ≡ 0) × AllRead S (re
 
 -- "and the stripe's stamp once per stripe": stripe i, stamp t, the index reads before; last those afterwards
 pub data Stamping (i t : ℕ) (l : List IndexRead) : List IndexRead → Type 0 where
-  new : any (ofStripe i) l ≡ false → Stamping i t l (l ++ indexReadOf i t ∷ [])
-  known : any (ofStripe i) l ≡ true → Stamping i t l l
+  added : any (ofStripe i) l ≡ false → Stamping i t l (l ++ indexReadOf i t ∷ [])
+  there : any (ofStripe i) l ≡ true → Stamping i t l l
 
 -- the present stamp of the key's stripe
 abbrev pub stampOf : Store → ℕ → ℕ
