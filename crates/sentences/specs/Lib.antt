@@ -5,6 +5,7 @@ pub mod StoreSays
 -- "Other calls" and recovery; what a transaction sees and reads
 pub mod CallsSay
 pub mod ReadsSay
+pub mod Forged
 -- "Steps and faults"
 pub mod StepsSay
 -- "Replay": its bytes; its lines; and a table of both, computed

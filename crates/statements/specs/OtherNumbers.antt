@@ -37,7 +37,7 @@ beginLines S =
     ∷ line 22 (ClockAtEnd Open) (leb clockEnd (S .clock))
     ∷ []
 
--- "row over 63; no room for a new read"
+-- "row over 63; no room for a new read"; when there is none, in words: `ReadTooMany` (ReadWords), by `read-full` (call_laws)
 abbrev pub readLines : Store → Tx → ℕ → List Line
 readLines S x r = healthyLines S x (
     line 23 (RowTooHigh Open) (leb rows r)
@@ -52,7 +52,7 @@ writeLines S x r = healthyLines S x (
     ∷ line 26 (SlotsFull Open) (eqb (lowestFree (S .xmin)) 0)
     ∷ [])
 
--- "24 if they don't all fit"
+-- "24 if they don't all fit"; in words: `LookupTooMany` (ReadWords), by `lookup-full` (call_laws)
 abbrev pub lookupLines : Store → Tx → ℕ → List Line
 lookupLines S x k =
     healthyLines S x (line 24 (ReadsFull Open) (ltb readLimit (length (recordReads S x (candidates S x k) (readsOf x)))) ∷ [])

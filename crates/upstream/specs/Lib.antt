@@ -10,7 +10,8 @@ pub mod Primitives
 pub mod Body
 -- whatever a call asks holds where it is reached, and the calls leave the events that commit answers
 pub mod EventsTold
--- source 002's clauses: postings, publication, what a failure leaves, guards, its witnesses
+-- source 002's clauses: visibility, postings, publication, what a failure leaves, guards, its witnesses
+pub mod Visibility
 pub mod Postings
 pub mod Publication
 pub mod Segment
