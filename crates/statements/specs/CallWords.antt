@@ -1,1 +1,170 @@
 -- "Other calls" in words: begin, write, row lock, abort, recovery; what is emptied and what is kept.
+use mathlib.Core.Path.{_≡_}
+use mathlib.Core.Bool.{Bool, true, false}
+use mathlib.Core.List.{List, [], _∷_, _++_}
+use mathlib.Core.Logic.{_≢_, _⊎_}
+use Prim.Native.Nat.{ℕ, suc, _+_, _*_, _≤_, _<_}
+use lib.ListN.{length, getD}
+use Rattle.records.specs.Limits.{rows, places, stripes, partitions, postingLimit, activeLimit, writeLimit, readLimit, indexReadLimit, savepointLimit}
+use Rattle.rules.specs.Lists.{memb}
+use Rattle.rules.specs.Types.{Store, Tx, Write, ReadRecord, IndexRead, Value, Absent, Key, Record, Events, Reply, Seen, Written, Found, Mended}
+use Rattle.statements.specs.StoreWords.{Sets, Packed, SameSlot, Blank}
+
+-- WHAT IS EMPTIED AND WHAT IS KEPT
+
+-- zero entries of a transaction's lists
+abbrev pub ZeroWrite : Write → Type 0
+ZeroWrite w = (w .row .0 ≡ 0) × (w .base .0 ≡ 0) × (w .new .0 ≡ 0)
+
+abbrev pub ZeroRead : ReadRecord → Type 0
+ZeroRead e = (e .row .0 ≡ 0) × (e .ptr .0 ≡ 0) × (e .xmin .0 ≡ 0)
+
+abbrev pub ZeroIndexRead : IndexRead → Type 0
+ZeroIndexRead e = (e .stripe ≡ 0) × (e .stamp .0 ≡ 0)
+
+abbrev pub Zero : ℕ → Type 0
+Zero n = n ≡ 0
+
+-- an array of n places whose places from c on are zero entries (d is read past the end, and says nothing)
+pub record ZeroFrom {A : Type 0} (Z : A → Type 0) (n c : ℕ) (l : List A) : Type 0 where
+  pub long : length l ≡ n
+  pub zero : (d : A) (i : ℕ) → c ≤ i → i < n → Z (getD l i d)
+
+-- a list emptied: its count is 0 and every place of its array is zero
+pub record Empty {A : Type 0} (Z : A → Type 0) (n : ℕ) (l : List A) (count : ℕ) : Type 0 where
+  pub none : count ≡ 0
+  pub blank : ZeroFrom Z n 0 l
+
+-- "txid kept", "the snapshot stays"
+pub record SameSnapshot (x y : Tx) : Type 0 where
+  pub txid : y .txid .0 ≡ x .txid .0
+  pub «snapshot_xmin» : y .«snapshot_xmin» .0 ≡ x .«snapshot_xmin» .0
+  pub «snapshot_xmax» : y .«snapshot_xmax» .0 ≡ x .«snapshot_xmax» .0
+  pub snapshot : y .snapshot ≡ x .snapshot
+  pub «snapshot_count» : y .«snapshot_count» ≡ x .«snapshot_count»
+
+-- a list kept, array and count
+pub record SameReads (x y : Tx) : Type 0 where
+  pub reads : y .reads ≡ x .reads
+  pub «read_count» : y .«read_count» ≡ x .«read_count»
+
+pub record SameIndexReads (x y : Tx) : Type 0 where
+  pub «index_reads» : y .«index_reads» ≡ x .«index_reads»
+  pub «index_read_count» : y .«index_read_count» ≡ x .«index_read_count»
+
+pub record SameSavepoints (x y : Tx) : Type 0 where
+  pub savepoints : y .savepoints ≡ x .savepoints
+  pub «savepoint_count» : y .«savepoint_count» ≡ x .«savepoint_count»
+
+-- '"Lists emptied" clears writes, reads, index reads and savepoints and lowers index_conflict; the snapshot stays': x becomes y
+pub record ListsEmptied (x y : Tx) : Type 0 where
+  pub snapshot : SameSnapshot x y
+  pub writes : Empty ZeroWrite writeLimit (y .writes) (y .«write_count»)
+  pub reads : Empty ZeroRead readLimit (y .reads) (y .«read_count»)
+  pub «index_reads» : Empty ZeroIndexRead indexReadLimit (y .«index_reads») (y .«index_read_count»)
+  pub savepoints : Empty Zero savepointLimit (y .savepoints) (y .«savepoint_count»)
+  pub «index_conflict» : y .«index_conflict» ≡ false
+
+-- 14: "writes, reads, index reads emptied"; savepoints and index_conflict are as they were
+pub record AccessesEmptied (x y : Tx) : Type 0 where
+  pub snapshot : SameSnapshot x y
+  pub writes : Empty ZeroWrite writeLimit (y .writes) (y .«write_count»)
+  pub reads : Empty ZeroRead readLimit (y .reads) (y .«read_count»)
+  pub «index_reads» : Empty ZeroIndexRead indexReadLimit (y .«index_reads») (y .«index_read_count»)
+  pub savepoints : SameSavepoints x y
+  pub «index_conflict» : y .«index_conflict» ≡ x .«index_conflict»
+
+-- 15: "writes alone emptied"
+pub record WritesEmptied (x y : Tx) : Type 0 where
+  pub snapshot : SameSnapshot x y
+  pub writes : Empty ZeroWrite writeLimit (y .writes) (y .«write_count»)
+  pub reads : SameReads x y
+  pub «index_reads» : SameIndexReads x y
+  pub savepoints : SameSavepoints x y
+  pub «index_conflict» : y .«index_conflict» ≡ x .«index_conflict»
+
+-- "zeroes the transaction but for its txid", which is t; "a zero transaction" is that with 0
+pub record OnlyTxid (t : ℕ) (y : Tx) : Type 0 where
+  pub txid : y .txid .0 ≡ t
+  pub «snapshot_xmin» : y .«snapshot_xmin» .0 ≡ 0
+  pub «snapshot_xmax» : y .«snapshot_xmax» .0 ≡ 0
+  pub snapshot : Empty Zero activeLimit (y .snapshot) (y .«snapshot_count»)
+  pub writes : Empty ZeroWrite writeLimit (y .writes) (y .«write_count»)
+  pub reads : Empty ZeroRead readLimit (y .reads) (y .«read_count»)
+  pub «index_reads» : Empty ZeroIndexRead indexReadLimit (y .«index_reads») (y .«index_read_count»)
+  pub savepoints : Empty Zero savepointLimit (y .savepoints) (y .«savepoint_count»)
+  pub «index_conflict» : y .«index_conflict» ≡ false
+
+-- one write more, of row r over base q in slot p: the earlier ones stand where they stood, the places behind it are zero, nothing else changes
+pub record OneWriteMore (x y : Tx) (r q p : ℕ) : Type 0 where
+  pub snapshot : SameSnapshot x y
+  pub «write_count» : y .«write_count» ≡ suc (x .«write_count»)
+  pub earlier : (d : Write) (i : ℕ) → i < x .«write_count» → getD (y .writes) i d ≡ getD (x .writes) i d
+  pub row : (d : Write) → getD (y .writes) (x .«write_count») d .row .0 ≡ r
+  pub base : (d : Write) → getD (y .writes) (x .«write_count») d .base .0 ≡ q
+  pub new : (d : Write) → getD (y .writes) (x .«write_count») d .new .0 ≡ p
+  pub behind : ZeroFrom ZeroWrite writeLimit (suc (x .«write_count»)) (y .writes)
+  pub reads : SameReads x y
+  pub «index_reads» : SameIndexReads x y
+  pub savepoints : SameSavepoints x y
+  pub «index_conflict» : y .«index_conflict» ≡ x .«index_conflict»
+
+-- "The record is zero unless 0"
+pub record ZeroRecord (r : Record) : Type 0 where
+  pub txid : r .txid .0 ≡ 0
+  pub writes : Empty ZeroWrite writeLimit (r .writes) (r .count)
+
+-- 0: the record names the txid t and the final writes ws, in their order, and the places behind them are zero
+pub record Names (t : ℕ) (ws : List Write) (r : Record) : Type 0 where
+  pub txid : r .txid .0 ≡ t
+  pub count : r .count ≡ length ws
+  pub writes : (d : Write) (i : ℕ) → i < length ws → getD (r .writes) i d ≡ getD ws i d
+  pub behind : ZeroFrom ZeroWrite writeLimit (length ws) (r .writes)
+
+-- "The 22 Events are returned as flags, zero on 1, 2, 3 and 18"
+pub record NoFlag (e : Events) : Type 0 where
+  pub «index_locked» : e .«index_locked» ≡ false
+  pub «partition_locked» : e .«partition_locked» ≡ false
+  pub «index_validated» : e .«index_validated» ≡ false
+  pub «row_lock_validated» : e .«row_lock_validated» ≡ false
+  pub «serial_validated» : e .«serial_validated» ≡ false
+  pub «base_validated» : e .«base_validated» ≡ false
+  pub «write_ahead» : e .«write_ahead» ≡ false
+  pub «durably_bound» : e .«durably_bound» ≡ false
+  pub «has_writes» : e .«has_writes» ≡ false
+  pub «unlogged_write_checked» : e .«unlogged_write_checked» ≡ false
+  pub «health_checked» : e .«health_checked» ≡ false
+  pub «health_cleanup_required» : e .«health_cleanup_required» ≡ false
+  pub «record_prepared» : e .«record_prepared» ≡ false
+  pub «payload_prepared» : e .«payload_prepared» ≡ false
+  pub «preparation_cleanup_required» : e .«preparation_cleanup_required» ≡ false
+  pub «destinations_prepared» : e .«destinations_prepared» ≡ false
+  pub «callback_complete» : e .«callback_complete» ≡ false
+  pub prepared : e .prepared ≡ false
+  pub «rows_published» : e .«rows_published» ≡ false
+  pub deregistered : e .deregistered ≡ false
+  pub stamped : e .stamped ≡ false
+  pub poisoned : e .poisoned ≡ false
+
+-- "A refused call beside commit answers none, 0, empty or a zero transaction"; "unchanged"
+pub record RefusedBegin (S : Store) (a : Reply) : Type 0 where
+  pub store : a .store ≡ S
+  pub tx : OnlyTxid 0 (a .tx)
+
+pub record RefusedRead (x : Tx) (a : Seen) : Type 0 where
+  pub value : a .value ≡ Absent
+  pub tx : a .tx ≡ x
+
+pub record RefusedWrite (S : Store) (x : Tx) (a : Written) : Type 0 where
+  pub slot : a .slot .0 ≡ 0
+  pub store : a .store ≡ S
+  pub tx : a .tx ≡ x
+
+pub record RefusedLookup (x : Tx) (a : Found) : Type 0 where
+  pub rows : Empty (λ r. r .0 ≡ 0) rows (a .rows) (a .count)
+  pub tx : a .tx ≡ x
+
+-- (a row lock or an abort)
+pub record RefusedReply (S : Store) (x : Tx) (a : Reply) : Type 0 where
+  pub store : a .store ≡ S
+  pub tx : a .tx ≡ x

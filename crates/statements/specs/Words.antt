@@ -21,6 +21,7 @@ use Rattle.rules.specs.Recovery.{recover}
 use Rattle.rules.specs.Commit.{unloggedWrites}
 use Rattle.rules.specs.Answer.{commit}
 use Rattle.statements.specs.Sized.{Sized}
+pub use Rattle.statements.specs.StoreWords.{Blank}
 
 -- PREMISES
 
@@ -100,15 +101,6 @@ pub record Committed (S : Store) (x : Tx) (a : Answer) : Type 0 where
   pub lists : a .tx ≡ emptied x
 
 -- what an abort leaves: every off-chain slot of t is all zero, and t is no longer active
-pub record Blank (T : Store) (p : ℕ) : Type 0 where
-  pub xmin : getD (T .xmin) p 0 ≡ 0
-  pub xmax : getD (T .xmax) p 0 ≡ 0
-  pub next : getD (T .next) p 0 ≡ 0
-  pub key : getD (T .key) p 0 ≡ 0
-  pub has : getD (T .has) p false ≡ false
-  pub locked : getD (T .locked) p false ≡ false
-  pub owner : getD (T .owner) p 0 ≡ 0
-
 pub record Freed (S : Store) (t : ℕ) (T : Store) : Type 0 where
   pub freed : (p : ℕ) → getD (S .xmin) p 0 ≡ t → on (walk (S .heads) (S .next) .seen) p ≡ false → Blank T p
   pub gone : memb t (activeTxids (T .active)) ≡ false
