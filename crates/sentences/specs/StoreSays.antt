@@ -14,7 +14,7 @@ use Rattle.records.specs.Relations.{rows-some, stripes-some}
 use Rattle.rules.specs.Lists.{memb, rising, into, without, pad, beforeZero}
 use Rattle.rules.specs.Types.{Store, Write, Value, Absent, Key}
 use Rattle.rules.specs.Store.{postingsOf, activeTxids, posting, keyOf, rowOf, stripeOf, partitionOf}
-use Rattle.rules.specs.Puts.{Put, apply, applyAll, takeSlot, putInsert, putRemove, putDrop, putEnter, kStripe, kPartition, kInsert, kRemove}
+use Rattle.rules.specs.Puts.{Put, apply, applyAll, takeSlot, posts, enters, kStripe, kPartition, kInsert, kRemove}
 use Rattle.rules.specs.Puts.{kXmax, kHead, kFree, kDrop, kStamp, kPoison, kDoom, kEnter, kClock, kXmin, kNext, kKey, kLock}
 use Rattle.basic_laws.specs.Cases.{by, clash, or-true, or-false, or-left, or-right, and-true, and-both, mem-here, mem-there}
 use Rattle.basic_laws.specs.Rising.{mem-into, rising-into, into-length, mem-without, rising-without, without-length}
@@ -88,3 +88,147 @@ module _ (l : List ℕ) (lo : ℕ) (In : ℕ → Type 0) (up : rising lo l ≡ t
       behind (x ∷ l) c h =
           let lt = h x (mem-here x l) in
           rw (le-ltb c x (omega arith), ne-eqb c x (λ e. omega arith), behind l c (λ d m. h d (mem-there d x l m)))
+
+module _ (S : Store) where
+  -- the postings, a rising list
+  posted : S .«posting_count» ≤ length (S .postings) → length (postingsOf S) ≡ S .«posting_count»
+  unfolding postingsOf
+  posted le = length-take-le (S .«posting_count») (S .postings) le
+
+  inserted : (c : ℕ) (In : ℕ → Type 0) → Packed (S .postings) (S .«posting_count») In → S .«posting_count» < postingLimit
+      → Packed (pad postingLimit 0 (into c (postingsOf S))) (length (into c (postingsOf S))) (λ d. (d ≡ c) ⊎ In d)
+  unfolding postingsOf
+  inserted c In P lt =
+      more (postingsOf S) 0 In (packed-rising _ _ In P 0 (λ d i. omega arith)) (packed-members _ _ In P) postingLimit c (omega arith)
+      (omega (arith, posted (P .within)))
+
+  removed : (c : ℕ) (In : ℕ → Type 0) → Packed (S .postings) (S .«posting_count») In → S .«posting_count» ≤ postingLimit
+      → Packed (pad postingLimit 0 (without c (postingsOf S))) (length (without c (postingsOf S))) (λ d. (d ≢ c) × In d)
+  unfolding postingsOf
+  removed c In P le =
+      less (postingsOf S) 0 In (packed-rising _ _ In P 0 (λ d i. omega arith)) (packed-members _ _ In P) postingLimit c (omega (arith, posted (P .within)))
+
+  -- the active txids, those before the first 0
+  module _ (n : ℕ) (In : ℕ → Type 0) (P : Packed (S .active) n In) (some : In 0 → ⊥) where
+    firsts : activeTxids (S .active) ≡ take n (S .active)
+    firsts = before-first (S .active) n (P .within) (λ i lt e. some (P .exactly 0 .1 (i, lt, e))) (P .after n (omega arith))
+
+    few : length (activeTxids (S .active)) ≡ n
+    few = rw firsts (length-take-le n (S .active) (P .within))
+
+    climbs : rising 1 (activeTxids (S .active)) ≡ true
+    climbs = rw firsts (packed-rising (S .active) n In P 1 (λ c i. positive c i))
+      where
+        positive : (c : ℕ) → In c → 1 ≤ c
+        positive zero i = absurd (some i)
+        positive (suc c) i = omega arith
+
+    these : (c : ℕ) → In c ↔ (memb c (activeTxids (S .active)) ≡ true)
+    these c = rw firsts (packed-members (S .active) n In P c)
+
+    dropped : (t : ℕ) → n ≤ activeLimit → (m : ℕ) × Packed (pad activeLimit 0 (without t (activeTxids (S .active)))) m (λ d. (d ≢ t) × In d)
+    dropped t le = (length (without t (activeTxids (S .active))), less (activeTxids (S .active)) 1 In climbs these activeLimit t (omega (arith, few)))
+
+    entered : (t : ℕ) → n < activeLimit → 0 < t → ((d : ℕ) → In d → d < t)
+        → Packed (pad activeLimit 0 (activeTxids (S .active) ++ t ∷ [])) (suc n) (λ d. (d ≡ t) ⊎ In d)
+    entered t lt pos top = rw (← few) (last (activeTxids (S .active)) 1 In climbs these activeLimit t pos (omega (arith, few)) top)
+
+  -- a put that changes the postings, or the active list, leaves as many places
+  has-room : (p : Put) → memb (p .kind) (changedBy Postings) ≡ true → length (apply p S .postings) ≡ postingLimit
+  has-room p m = by (eqb (p .kind) kInsert || eqb (p .kind) kRemove)
+      (λ e. rw e (pad-length {A = ℕ} postingLimit 0 (posts p (postingsOf S))))
+      (λ e. let o = or-false (eqb (p .kind) kInsert) (eqb (p .kind) kRemove) e in clash m (rw (o .0, o .1)))
+
+  has-places : (p : Put) → memb (p .kind) (changedBy Active) ≡ true → length (apply p S .active) ≡ activeLimit
+  has-places p m = by (eqb (p .kind) kDrop || eqb (p .kind) kEnter)
+      (λ e. rw e (pad-length {A = ℕ} activeLimit 0 (enters p (activeTxids (S .active)))))
+      (λ e. let o = or-false (eqb (p .kind) kDrop) (eqb (p .kind) kEnter) e in clash m (rw (o .0, o .1)))
+
+  -- "A store is one guard, posting, xmax, head, slot, active-list, stamp or poison change."
+  pub store-changes : StoreKinds S
+  store-changes = record {
+    else = λ p part n. kept p S part n;
+    stripe = λ i t. sets-one (S .«stripe_guards») i t;
+    partition = λ i t. sets-one (S .«partition_guards») i t;
+    xmax = λ p t. sets-one (S .xmax) p t;
+    head = λ r p. sets-one (S .heads) r p;
+    stamp = λ i t. sets-one (S .stamps) i t;
+    xmin = λ p t. sets-one (S .xmin) p t;
+    next = λ p q. sets-one (S .next) p q;
+    key = λ p k. sets-one (S .key) p k;
+    has = λ p k. sets-one (S .has) p true;
+    locked = λ p t. sets-one (S .locked) p true;
+    owner = λ p t. sets-one (S .owner) p t;
+    freeXmin = λ p. sets-one (S .xmin) p 0;
+    freeXmax = λ p. sets-one (S .xmax) p 0;
+    freeNext = λ p. sets-one (S .next) p 0;
+    freeKey = λ p. sets-one (S .key) p 0;
+    freeHas = λ p. sets-one (S .has) p false;
+    freeLocked = λ p. sets-one (S .locked) p false;
+    freeOwner = λ p. sets-one (S .owner) p 0;
+    insert = λ c In P lt. inserted c In P lt;
+    remove = λ c In P le. removed c In P le;
+    room = has-room;
+    drop = λ t n In P some le. dropped n In P some t le;
+    enter = λ t n In P some lt pos top. entered n In P some t lt pos top;
+    length = has-places;
+    clock = λ t. refl;
+    poison = refl;
+    doomPoisons = λ t. refl;
+    doom = λ t. refl;
+  }
+
+-- "the lowest free slot is taken": a blank slot p taken for a version of t
+pub slot-taken : (S : Store) (p t q : ℕ) (v : Value) → Blank S p → Taken S (applyAll (takeSlot p t q v) S) p t q v
+slot-taken S p t q v B = record {
+  xmin = slot-xmin v;
+  next = slot-next v;
+  key = slot-key v;
+  has = slot-has v;
+  else = λ part a b c. slot-else v part a b c;
+}
+  where
+    slot-xmin : (v : Value) → Sets (S .xmin) (applyAll (takeSlot p t q v) S .xmin) p t
+    slot-xmin Absent = sets-one (S .xmin) p t
+    slot-xmin (Key k) = sets-one (S .xmin) p t
+
+    slot-next : (v : Value) → Sets (S .next) (applyAll (takeSlot p t q v) S .next) p q
+    slot-next Absent = sets-one (S .next) p q
+    slot-next (Key k) = sets-one (S .next) p q
+
+    slot-key : (v : Value) → Sets (S .key) (applyAll (takeSlot p t q v) S .key) p (storedKey v)
+    slot-key Absent = sets-same (S .key) p 0 0 (λ lt. B .key)
+    slot-key (Key k) = sets-one (S .key) p k
+
+    slot-has : (v : Value) → Sets (S .has) (applyAll (takeSlot p t q v) S .has) p (isPresent v)
+    slot-has Absent = sets-same (S .has) p false false (λ lt. B .has)
+    slot-has (Key k) = sets-one (S .has) p true
+
+    slot-else : (v : Value) (part : Part) → part ≢ Xmin → part ≢ Next → part ≢ Values → Kept S (applyAll (takeSlot p t q v) S) part
+    slot-else v Xmin a b c = absurd (a refl)
+    slot-else v Next a b c = absurd (b refl)
+    slot-else v Values a b c = absurd (c refl)
+    slot-else Absent Heads a b c = refl
+    slot-else (Key k) Heads a b c = refl
+    slot-else Absent Xmax a b c = refl
+    slot-else (Key k) Xmax a b c = refl
+    slot-else Absent Locks a b c = (refl, refl)
+    slot-else (Key k) Locks a b c = (refl, refl)
+    slot-else Absent Postings a b c = (refl, refl)
+    slot-else (Key k) Postings a b c = (refl, refl)
+    slot-else Absent StripeGuards a b c = refl
+    slot-else (Key k) StripeGuards a b c = refl
+    slot-else Absent PartitionGuards a b c = refl
+    slot-else (Key k) PartitionGuards a b c = refl
+    slot-else Absent Stamps a b c = refl
+    slot-else (Key k) Stamps a b c = refl
+    slot-else Absent Active a b c = refl
+    slot-else (Key k) Active a b c = refl
+    slot-else Absent Clock a b c = refl
+    slot-else (Key k) Clock a b c = refl
+    slot-else Absent Poisoned a b c = refl
+    slot-else (Key k) Poisoned a b c = refl
+    slot-else Absent Doomed a b c = refl
+    slot-else (Key k) Doomed a b c = refl
+    slot-else Absent Bound a b c = refl
+    slot-else (Key k) Bound a b c = refl
