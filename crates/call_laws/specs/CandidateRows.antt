@@ -22,7 +22,7 @@ use Rattle.posting_laws.specs.HeadsTold.{carries-key}
 use Rattle.posting_laws.specs.LookupFinds.{candidate-tells}
 use Rattle.posting_laws.specs.Posted.{mem-append}
 use Rattle.basic_laws.specs.Rising.{eqb-sym, rising-less, mem-inOrder, rising-inOrder}
-use Rattle.call_laws.specs.ReadLaws.{ofRow}
+use Rattle.statements.specs.ReadWords.{ofRow}
 
 -- some of a rising list rise
 rising-those : (lo : ℕ) (f : ℕ → Bool) (l : List ℕ) → rising lo l ≡ true → rising lo (those f l) ≡ true

@@ -23,21 +23,22 @@ use Rattle.admitted_laws.specs.Resting.{Rests, rests}
 use Rattle.call_laws.specs.Refusals.{read-accepted}
 use Rattle.call_laws.specs.Passed.{read-passed}
 use Rattle.basic_laws.specs.Blanks.{all-more, drop-pad}
-use Rattle.call_laws.specs.ReadLaws.{Reading, own, found, known, absent, readOf, mem-mid, reading}
+use Rattle.statements.specs.ReadWords.{Reading, own, found, known, absent, readOf}
+use Rattle.call_laws.specs.ReadLaws.{mem-mid, reading}
 use Rattle.call_laws.specs.Counts.{SizedTx, blankRead, counts-parts, parts-counts}
 use Rattle.call_laws.specs.Keeps.{Keeps}
 
 module _ (S : Store) (x : Tx) (L : ℕ → List ℕ) (z : Sized S) (R : Rests S L) where
   -- a reading leaves fit reads
   pub reading-fits : {l m : List ReadRecord} {v : Value} (r : ℕ) → r < rows → Reading S x r (L r) l v m → all readFit l ≡ true → all readFit m ≡ true
-  reading-fits r lt (own w o) h = h
-  reading-fits {l} r lt (found p e F k) h =
+  reading-fits r lt (own w o v) h = h
+  reading-fits {l} r lt (found p e F k v) h =
       let b = chain-below (S .next) (getD (S .heads) r 0) (L r) p (R .mends .stands .chains .chain r (omega (arith, z .heads)))
       (rw (F .split) (mem-mid p (F .before) (F .after))) in
       all-more readFit l (readOf r p (getD (S .xmin) p 0)) h
       (cons-every _ _ (lt-ltb r rows lt) (cons-every _ _ (le-leb 1 p (b .0)) (cons-every _ _ (le-leb p slots (omega (arith, b .1, z .next))) every-none)))
-  reading-fits r lt (known p e F k) h = h
-  reading-fits r lt (absent e s) h = h
+  reading-fits r lt (known p e F k v) h = h
+  reading-fits r lt (absent e s v) h = h
 
   -- a fit transaction with other fit reads is fit
   pub reads-fit : fit S x ≡ true → (l : List ReadRecord) → length l ≤ readLimit → all readFit l ≡ true → fit S (withReads l x) ≡ true

@@ -1,98 +1,102 @@
--- Lookup: the rows it finds, what it records, when it raises index_conflict; and that the transaction stays fit.
-use mathlib.Core.Path.{_≡_, refl, sym, _∙_}
+-- Lookup: the rows it finds, what it records, when it raises index_conflict; and that the transaction stays fit. The words are in crate `statements`,
+-- ReadWords.
+use mathlib.Core.Path.{_≡_, refl, sym, ap, _∙_}
 use mathlib.Core.Bool.{Bool, true, false, not, _&&_, _||_}
 use mathlib.Core.List.{List, [], _∷_, _++_, map}
 use mathlib.Core.Logic.{_↔_, _⊎_, inl, inr, ⊎-elim}
 use Prim.Native.Nat.{ℕ, _≤_, _<_}
 use native.Mathlib.Omega.{arith}
-use lib.ListN.{length, getD}
-use lib.Dec.{eqb}
-use borrow.Author.Tests.{eqb-false, ne-eqb, le-leb, not-true}
+use lib.ListN.{length, getD, length-map}
+use lib.Dec.{eqb, ltb}
+use borrow.Author.Tests.{eqb-false, ne-eqb, ltb-true, lt-ltb, le-leb, not-true}
 use Rattle.records.specs.Limits.{rows, readLimit, indexReadLimit}
 use Rattle.records.specs.Relations.{stripes-read, stripes-some}
 use Rattle.records.specs.Zero.{noRead, noIndexRead}
-use Rattle.rules.specs.Lists.{any, memb, pad, rising}
-use Rattle.rules.specs.Types.{Store, Tx, ReadRecord, IndexRead, Found, Key}
+use Rattle.rules.specs.Lists.{any, memb, rising}
+use Rattle.rules.specs.Types.{Store, Tx, ReadRecord, IndexRead, Key}
 use Rattle.rules.specs.Store.{posting, valueAt, stripeOf, postingsOf}
-use Rattle.rules.specs.Transaction.{writesOf, readsOf, indexReadsOf, sees, withReads, withIndexReads}
+use Rattle.rules.specs.Transaction.{writesOf, readsOf, indexReadsOf, sees, withReads}
 use Rattle.rules.specs.Fit.{stripesApart, fit}
 use Rattle.rules.specs.Numbers.{numberOf}
-use Rattle.rules.specs.Calls.{readPtr, recordRead, candidates, recordReads, recordStamp, matching, asRow, lookup}
-use Rattle.basic_laws.specs.Cases.{and-true, or-true, or-right}
+use Rattle.rules.specs.Calls.{readPtr, recordRead, candidates, recordReads, recordStamp, matching, lookup}
+use Rattle.basic_laws.specs.Cases.{by, clash, iff, and-true, or-true, or-left, or-right, mem-here, mem-there}
+use Rattle.basic_laws.specs.Members.{mem-all}
+use Rattle.basic_laws.specs.Rising.{rising-ext, rising-short}
 use Rattle.statements.specs.Sized.{Sized}
+use Rattle.statements.specs.ReadWords.{Visible, ofRow, rowId, Reading, Candidate, Finds, Tried, InTurn, done, next, readAll, AllRead, stampOf, Looks}
+use Rattle.statements.specs.ReadWords.{LookupTooMany}
 use Rattle.basic_laws.specs.TestParts.{fit-parts, parts-fit}
 use Rattle.basic_laws.specs.LaidOut.{pad-length, take-pad}
+use Rattle.sentences.specs.ReadsSay.{not-seen, laid-out, kept-both, reads-alone, index-reads-alone, stamp-says}
 use Rattle.admitted_laws.specs.Resting.{Rests}
 use Rattle.basic_laws.specs.Blanks.{drop-pad}
-use Rattle.call_laws.specs.Refusals.{looked, lookup-accepted}
-use Rattle.call_laws.specs.Passed.{LookupPassed, lookup-passed}
-use Rattle.call_laws.specs.ReadLaws.{ofRow, Reading, reading, reading-one}
+use Rattle.call_laws.specs.Refusals.{looked, lookup-told, lookup-accepted}
+use Rattle.call_laws.specs.Passed.{Admitted, LookupPassed, lookup-passed}
+use Rattle.call_laws.specs.ReadLaws.{reading, reading-one}
 use Rattle.call_laws.specs.Counts.{SizedTx, blankIndexRead, counts-parts, parts-counts}
 use Rattle.call_laws.specs.Keeps.{Keeps}
 use Rattle.call_laws.specs.CandidateRows.{candidate-is, matching-rise, matching-is, candidate-below, candidates-rise}
-use Rattle.call_laws.specs.OneByOne.{readAll, AllRead, one-by-one}
+use Rattle.call_laws.specs.OneByOne.{one-by-one}
 use Rattle.call_laws.specs.StampLaws.{stripes-few, stamps-apart}
 
--- the present stamp of the key's stripe
-abbrev pub stampOf : Store → ℕ → ℕ
-stampOf S k = getD (S .stamps) (stripeOf k) 0
+module _ (S : Store) (x : Tx) (k : ℕ) where
+  -- "rows from postings of the key and own writes"
+  pub candidate-says : (r : ℕ) → r < rows → (memb r (candidates S x k) ≡ true) ↔ Candidate S x k r
+  unfolding postingsOf
+  candidate-says r lt =
+      let posted = memb (posting k r) (postingsOf S) in
+      let written = any (ofRow r) (writesOf x) in
+      let e = candidate-is S x k r lt in (
+        λ m. or-true posted written (sym e ∙ m) (λ h. inl h) (λ h. inr h),
+        λ o. e ∙ ⊎-elim (λ h. or-left posted written h) (λ h. or-right posted written h) o,
+      )
 
--- the rows that a lookup finds: rising, below the limit, and exactly the candidates ("rows from postings of the key and own writes") whose
--- read value is the key
-pub record Finds (S : Store) (x : Tx) (k : ℕ) (L : ℕ → List ℕ) (found : List ℕ) : Type 0 where
-  pub rise : rising 0 found ≡ true
-  pub below : (r : ℕ) → memb r found ≡ true → r < rows
-  pub exactly : (r : ℕ) → r < rows
-      → (memb r found ≡ true)
-      ↔ (((memb (posting k r) (postingsOf S) || any (ofRow r) (writesOf x)) ≡ true) × ((m : List ReadRecord) × Reading S x r (L r) (readsOf x) (Key k) m))
+  module _ (L : ℕ → List ℕ) (z : Sized S) (R : Rests S L) (f : fit S x ≡ true) where
+    tried : Tried S x k (candidates S x k)
+    tried = record { rise = candidates-rise S x k; below = candidate-below S x k f; exactly = candidate-says }
 
--- the rows that it reads: the candidates, rising
-pub record Tried (S : Store) (x : Tx) (k : ℕ) (cs : List ℕ) : Type 0 where
-  pub rise : rising 0 cs ≡ true
-  pub below : (r : ℕ) → memb r cs ≡ true → r < rows
-  pub exactly : (r : ℕ) → r < rows → memb r cs ≡ (memb (posting k r) (postingsOf S) || any (ofRow r) (writesOf x))
+    -- there is one such list
+    tried-one : (cs : List ℕ) → Tried S x k cs → cs ≡ candidates S x k
+    tried-one cs T =
+        let C = tried in
+        rising-ext 0 0 cs (candidates S x k) (T .rise) (C .rise) (λ r. iff (memb r cs) (memb r (candidates S x k))
+        (λ m. C .exactly r (T .below r m) .1 (T .exactly r (T .below r m) .0 m))
+        (λ m. T .exactly r (C .below r m) .1 (C .exactly r (C .below r m) .0 m)))
 
--- what an accepted lookup answers: the rows found; its reads are those of reading the candidates one after the other; the stamp of the key's stripe is
--- recorded if the stripe was not; index_conflict rises exactly where the present stamp is nonzero and not visible; nothing else changes
-pub record Looks (S : Store) (x : Tx) (k : ℕ) (L : ℕ → List ℕ) (a : Found) : Type 0 where
-  pub found : List ℕ
-  pub finds : Finds S x k L found
-  pub array : a .rows ≡ pad rows (asRow 0) (map asRow found)
-  pub count : a .count ≡ length found
-  pub readRows : List ℕ
-  pub tried : Tried S x k readRows
-  pub accepted : AllRead S x readRows
-  pub reads : readsOf (a .tx) ≡ readsOf (readAll S x readRows)
-  pub stamped : any (λ e. eqb (e .stripe) (stripeOf k)) (indexReadsOf x) ≡ true → indexReadsOf (a .tx) ≡ indexReadsOf x
-  pub unstamped : any (λ e. eqb (e .stripe) (stripeOf k)) (indexReadsOf x) ≡ false
-      → indexReadsOf (a .tx) ≡ indexReadsOf x ++ record { stripe = stripeOf k; stamp = record { 0 = stampOf S k } } ∷ []
-  pub conflict : (a .tx .«index_conflict» ≡ true) ↔ ((x .«index_conflict» ≡ true) ⊎ ((stampOf S k ≡ 0 → ⊥) × (sees x (stampOf S k) ≡ false)))
-  pub rest : a .tx ≡ withIndexReads (indexReadsOf (a .tx)) (a .tx .«index_conflict») (withReads (readsOf (a .tx)) x)
+    -- rows read one after the other leave what lookup records, and nothing else
+    in-turn : (rs : List ℕ) (l : List ReadRecord) → ((r : ℕ) → memb r rs ≡ true → r < rows) → InTurn S x L rs l (recordReads S x rs l)
+    in-turn [] l b = done
+    in-turn (r ∷ rs) l b = next (reading S x L z R f r l (b r (mem-here r rs))) (in-turn rs (recordRead S x r l) (λ s m. b s (mem-there s r rs m)))
 
-module _ (S : Store) (x : Tx) (k : ℕ) (L : ℕ → List ℕ) (z : Sized S) (R : Rests S L) (f : fit S x ≡ true) where
-  tried : Tried S x k (candidates S x k)
-  tried = record { rise = candidates-rise S x k; below = candidate-below S x k f; exactly = candidate-is S x k }
+    in-turn-one : (rs : List ℕ) (l m : List ReadRecord) → ((r : ℕ) → memb r rs ≡ true → r < rows) → InTurn S x L rs l m → m ≡ recordReads S x rs l
+    in-turn-one _ l _ b done = refl
+    in-turn-one _ l n b (next {r = r} {rs = rs} {v = v} {m = m} w t) =
+        in-turn-one rs m n (λ s e. b s (mem-there s r rs e)) t
+        ∙ ap (λ (q : List ReadRecord). recordReads S x rs q) (reading-one S x L z R f r l m v (b r (mem-here r rs)) w .1)
 
-  -- the rows found are exactly those
-  finds : Finds S x k L (matching S x k)
-  finds = record {
-    rise = matching-rise S x k;
-    below = λ r m. candidate-below S x k f r (matching-is S x k r .0 m .0);
-    exactly = λ r lt.
-        let v = valueAt (S .key) (S .has) (readPtr S x r) in
-        let w : Reading S x r (L r) (readsOf x) v (recordRead S x r (readsOf x)) = reading S x L z R f r (readsOf x) lt in (
-          λ m. let a = matching-is S x k r .0 m in (sym (candidate-is S x k r lt) ∙ a .0, (recordRead S x r (readsOf x), rw (a .1) at w)),
-          λ a. matching-is S x k r .1 (candidate-is S x k r lt ∙ a .0, sym (reading-one S x L z R f r (readsOf x) (a .1 .0) (Key k) lt (a .1 .1) .0)),
-        );
-  }
+    -- the rows found are exactly those
+    finds : Finds S x k L (matching S x k)
+    finds = record {
+      rise = matching-rise S x k;
+      below = λ r m. candidate-below S x k f r (matching-is S x k r .0 m .0);
+      exactly = λ r lt.
+          let v = valueAt (S .key) (S .has) (readPtr S x r) in
+          let w : Reading S x r (L r) (readsOf x) v (recordRead S x r (readsOf x)) = reading S x L z R f r (readsOf x) lt in (
+            λ m. let a = matching-is S x k r .0 m in (candidate-says r lt .0 (a .0), (recordRead S x r (readsOf x), rw (a .1) at w)),
+            λ a. matching-is S x k r .1 (candidate-says r lt .1 (a .0), sym (reading-one S x L z R f r (readsOf x) (a .1 .0) (Key k) lt (a .1 .1) .0)),
+          );
+    }
 
--- a test or a conflict
-raised : (b : Bool) (t : ℕ) (s : Bool) → ((b || (not (eqb t 0) && not s)) ≡ true) ↔ ((b ≡ true) ⊎ ((t ≡ 0 → ⊥) × (s ≡ false)))
-raised b t s = (
-  λ h. or-true b (not (eqb t 0) && not s) h (λ e. inl e)
-      (λ e. let a = and-true (not (eqb t 0)) (not s) e in inr (eqb-false t 0 (not-true (eqb t 0) (a .0)), not-true s (a .1))),
-  λ o. ⊎-elim (λ e. rw e) (λ (a : (t ≡ 0 → ⊥) × (s ≡ false)). or-right b (not (eqb t 0) && not s) (rw (ne-eqb t 0 (a .0), a .1))) o,
-)
+-- "raises index_conflict if the present stamp is nonzero and not visible"
+raised : (x : Tx) (b : Bool) (t : ℕ) → ((b || (not (eqb t 0) && not (sees x t))) ≡ true) ↔ ((b ≡ true) ⊎ ((t ≡ 0 → ⊥) × (Visible x t → ⊥)))
+raised x b t =
+    let s = sees x t in (
+      λ h. or-true b (not (eqb t 0) && not s) h (λ e. inl e)
+          (λ e. let a = and-true (not (eqb t 0)) (not s) e in
+          inr (eqb-false t 0 (not-true (eqb t 0) (a .0)), not-seen x t .0 (not-true s (a .1)))),
+      λ o. ⊎-elim (λ e. rw e)
+          (λ (a : (t ≡ 0 → ⊥) × (Visible x t → ⊥)). or-right b (not (eqb t 0) && not s) (rw (ne-eqb t 0 (a .0), not-seen x t .1 (a .1)))) o,
+    )
 
 -- an accepted lookup
 module _ (S : Store) (x : Tx) (k : ℕ) (z : Sized S) (y : SizedTx x) (h : numberOf (lookup S x k .refusal) ≡ 0) where
@@ -117,24 +121,35 @@ module _ (S : Store) (x : Tx) (k : ℕ) (z : Sized S) (y : SizedTx x) (h : numbe
   few : length e ≤ indexReadLimit
   few = omega (arith, stripes-few e apart, stripes-read)
 
+  -- the rows found have places
+  found-few : length (matching S x k) ≤ rows
+  found-few = rising-short rows (matching S x k) (matching-rise S x k) (mem-all (λ r. ltb r rows) (matching S x k)
+      (λ r m. lt-ltb r rows (candidate-below S x k (passed .first .fits) r (matching-is S x k r .0 m .0))))
+
   -- it answers as said
   pub lookup-looks : (L : ℕ → List ℕ) → Rests S L → Looks S x k L (lookup S x k)
   lookup-looks L R =
-      let m = take-pad indexReadLimit noIndexRead e few in
-      let q = take-pad readLimit noRead l (passed .room) in
+      let f = passed .first .fits in
+      let c = x .«index_conflict» || (not (eqb (stampOf S k) 0) && not (sees x (stampOf S k))) in
+      let o = reads-alone x l (passed .room) in
+      let i = index-reads-alone (withReads l x) e c few in
+      let m = length-map (matching S x k) rowId in
       rw (lookup-accepted S x k h) (record {
         found = matching S x k;
-        finds = finds S x k L z R (passed .first .fits);
-        array = refl;
-        count = refl;
+        finds = finds S x k L z R f;
+        array = rw m at (laid-out rows (rowId 0) (map rowId (matching S x k)) (rw m found-few));
         readRows = candidates S x k;
-        tried = tried S x k L z R (passed .first .fits);
+        tried = tried S x k L z R f;
+        after = l;
+        inTurn = in-turn S x k L z R f (candidates S x k) (readsOf x) (candidate-below S x k f);
+        reads = o .1;
         accepted = reads-them .0;
-        reads = rw (reads-them .1);
-        stamped = λ n. m ∙ rw n;
-        unstamped = λ n. m ∙ rw n;
-        conflict = raised (x .«index_conflict») (stampOf S k) (sees x (stampOf S k));
-        rest = rw (m, q);
+        asRead = rw (reads-them .1);
+        stamps = e;
+        stamping = stamp-says (stripeOf k) (stampOf S k) (indexReadsOf x);
+        «index_reads» = i .1;
+        conflict = raised x (x .«index_conflict») (stampOf S k);
+        kept = kept-both (o .0) (i .0);
       })
 
   -- and the transaction that it returns can go on
@@ -177,3 +192,41 @@ module _ (S : Store) (x : Tx) (k : ℕ) (z : Sized S) (y : SizedTx x) (h : numbe
         });
         active = passed .first .active;
       })
+
+-- "24 if they don't all fit": exactly where what its candidates would record doesn't fit, and else it is accepted
+module _ (S : Store) (x : Tx) (L : ℕ → List ℕ) (z : Sized S) (R : Rests S L) (P : Admitted S x) (healthy : S .poisoned ≡ false) (k : ℕ) where
+  over : (ltb readLimit (length (recordReads S x (candidates S x k) (readsOf x))) ≡ true) ↔ LookupTooMany S x k L
+  over =
+      let cs = candidates S x k in
+      let m = recordReads S x cs (readsOf x) in
+      let f = P .fits in (
+        λ h. (cs, m, tried S x k L z R f, in-turn S x k L z R f cs (readsOf x) (candidate-below S x k f), ltb-true readLimit (length m) h),
+        λ t. let e = in-turn-one S x k L z R f (t .0) (readsOf x) (t .1) (t .2 .below) (t .3) in
+            lt-ltb readLimit (length m) (rw (e, tried-one S x k L z R f (t .0) (t .2)) at (t .4)),
+      )
+
+  pub lookup-full : (numberOf (lookup S x k .refusal) ≡ 24) ↔ LookupTooMany S x k L
+  lookup-full =
+      let t = lookup-told S x k .2 .2 .2 .2 .0 in (
+        λ h. over .0 (t .0 h .1),
+        λ m. t .1 ((rw (P .rests), (rw (P .fits), (rw (P .active), (healthy, tt)))), over .1 m),
+      )
+
+  pub lookup-done : (numberOf (lookup S x k .refusal) ≡ 0) ↔ (LookupTooMany S x k L → ⊥)
+  lookup-done =
+      let t = lookup-told S x k .2 .2 .2 .2 .2 in (
+        λ h m. clash (over .1 m) (t .0 h .1 .1 .1 .1 .0),
+        λ n. t .1 (
+          rw (P .rests),
+          (
+            rw (P .fits),
+            (
+              rw (P .active),
+              (
+                healthy,
+                (by (ltb readLimit (length (recordReads S x (candidates S x k) (readsOf x)))) (λ e. absurd (n (over .0 e))) (λ e. e), tt),
+              ),
+            ),
+          ),
+        ),
+      )

@@ -22,20 +22,12 @@ use Rattle.basic_laws.specs.TestParts.{fit-parts}
 use Rattle.basic_laws.specs.LaidOut.{take-pad, pad-take}
 use Rattle.call_laws.specs.FirstLine.{applies-none}
 use Rattle.statements.specs.OtherNumbers.{readLines}
+use Rattle.statements.specs.ReadWords.{readAll, AllRead}
 use Rattle.call_laws.specs.Refusals.{read-told, read-accepted}
 use Rattle.call_laws.specs.Passed.{Admitted}
 use Rattle.call_laws.specs.Counts.{SizedTx, blankRead, counts-parts}
 use Rattle.call_laws.specs.Keeps.{Keeps}
 use Rattle.call_laws.specs.KeepsReads.{read-keeps}
-
--- rows read one after the other, and that each read is accepted
-abbrev pub readAll : Store → Tx → List ℕ → Tx
-readAll S x [] = x
-readAll S x (r ∷ rs) = readAll S (read S x r .tx) rs
-
-abbrev pub AllRead : Store → Tx → List ℕ → Type 0
-AllRead S x [] = Unit {0}
-AllRead S x (r ∷ rs) = (numberOf (read S x r .refusal) ≡ 0) × AllRead S (read S x r .tx) rs
 
 -- a read leaves at least the reads there are
 longer : (S : Store) (x : Tx) (r : ℕ) (l : List ReadRecord) → length l ≤ length (recordRead S x r l)

@@ -1,17 +1,18 @@
--- Read: whose value it gives, and what it records.
+-- Read: whose value it gives, what it records, and that it changes nothing else. The words are in crate `statements`, ReadWords.
 use mathlib.Core.Path.{_≡_, refl, sym, ap, _∙_}
 use mathlib.Core.Bool.{Bool, true, false, not}
 use mathlib.Core.List.{List, [], _∷_, _++_, map}
+use mathlib.Core.Logic.{_↔_}
 use Prim.Native.Nat.{ℕ, _<_}
 use native.Mathlib.Omega.{arith}
 use lib.ListN.{length, getD}
-use lib.Dec.{eqb}
-use borrow.Author.Tests.{eqb-true, eqb-false, eq-eqb, ne-eqb, ltb-true, lt-ltb, not-true}
+use lib.Dec.{eqb, ltb}
+use borrow.Author.Tests.{eqb-true, eqb-false, eq-eqb, ne-eqb, ltb-true, lt-ltb, lt-leb, not-true}
 use Rattle.records.specs.Limits.{rows, readLimit}
-use Rattle.records.specs.Zero.{noWrite, noRead}
+use Rattle.records.specs.Zero.{noWrite}
 use Rattle.rules.specs.Lists.{all, any, memb, nonzero, firstOf}
 use Rattle.rules.specs.Types.{Store, Tx, Write, ReadRecord, Seen, Value, Absent}
-use Rattle.rules.specs.Store.{valueAt}
+use Rattle.rules.specs.Store.{valueAt, activeTxids}
 use Rattle.rules.specs.Transaction.{writesOf, readsOf, sees, lastOwn, withReads}
 use Rattle.rules.specs.Chains.{walk}
 use Rattle.rules.specs.Fit.{fit, writeFit}
@@ -21,73 +22,38 @@ use Rattle.basic_laws.specs.Cases.{by, clash, and-true, or-true, or-false, or-n
 use Rattle.basic_laws.specs.Chain.{chain-below}
 use Rattle.basic_laws.specs.Chained.{chained-from}
 use Rattle.statements.specs.Sized.{Sized}
+use Rattle.statements.specs.ReadWords.{VisibleAt, FirstIn, NoneIn, LastOf, ofRow, ofPtr, readOf, HasValue, Reading, own, found, known, absent}
+use Rattle.statements.specs.ReadWords.{Reads, ReadTooMany}
 use Rattle.basic_laws.specs.TestParts.{fit-parts, write-parts}
 use Rattle.basic_laws.specs.Rising.{unique}
-use Rattle.basic_laws.specs.LaidOut.{take-pad}
 use Rattle.basic_laws.specs.AllOf.{all-then}
+use Rattle.sentences.specs.ReadsSay.{sees-says, none-meant, meant-none, first-says, first-one, value-says, value-one, reads-alone}
 use Rattle.admitted_laws.specs.Repairable.{marks}
 use Rattle.admitted_laws.specs.Resting.{Rests}
-use Rattle.call_laws.specs.Refusals.{read-accepted}
-use Rattle.call_laws.specs.Passed.{read-passed}
+use Rattle.call_laws.specs.Refusals.{read-told, read-accepted}
+use Rattle.call_laws.specs.Passed.{Admitted, read-passed}
 
--- the first of a list that passes, and none before it
-pub record FirstIn (f : ℕ → Bool) (l : List ℕ) (p : ℕ) : Type 0 where
-  pub before : List ℕ
-  pub after : List ℕ
-  pub split : l ≡ before ++ p ∷ after
-  pub none : any f before ≡ false
-  pub passes : f p ≡ true
-
--- a write of row r
-abbrev pub ofRow : ℕ → Write → Bool
-ofRow r w = eqb (w .row .0) r
-
--- the last write of row r, and none after it
-pub record LastOf (r : ℕ) (ws : List Write) (w : Write) : Type 0 where
-  pub before : List Write
-  pub after : List Write
-  pub split : ws ≡ before ++ w ∷ after
-  pub row : w .row .0 ≡ r
-  pub none : any (ofRow r) after ≡ false
-
--- the creator of slot p is visible
+-- the creator of slot p is visible, as the definition tests it
 abbrev pub visibleAt : Store → Tx → ℕ → Bool
 visibleAt S x p = sees x (getD (S .xmin) p 0)
 
--- a read record
-abbrev pub readOf : ℕ → ℕ → ℕ → ReadRecord
-readOf r p t = record { row = record { 0 = r }; ptr = record { 0 = p }; xmin = record { 0 = t } }
+-- and as it is meant
+pub at-says : (S : Store) (x : Tx) (p : ℕ) → (visibleAt S x p ≡ true) ↔ VisibleAt S x p
+at-says S x p = sees-says x (getD (S .xmin) p 0)
 
--- "Read: the last own write of the row, else the first chain version with a visible creator. A found version's pointer and xmin are recorded once
--- per pointer; own writes and absent rows are not." The chain of row r is c, l the reads before; then the value and the reads afterwards
-pub data Reading (S : Store) (x : Tx) (r : ℕ) (c : List ℕ) (l : List ReadRecord) : Value → List ReadRecord → Type 0 where
-  own : (w : Write) → LastOf r (writesOf x) w → Reading S x r c l (valueAt (S .key) (S .has) (w .new .0)) l
-  found : (p : ℕ) → any (ofRow r) (writesOf x) ≡ false → FirstIn (visibleAt S x) c p → any (λ e. eqb (e .ptr .0) p) l ≡ false
-      → Reading S x r c l (valueAt (S .key) (S .has) p) (l ++ readOf r p (getD (S .xmin) p 0) ∷ [])
-  known : (p : ℕ) → any (ofRow r) (writesOf x) ≡ false → FirstIn (visibleAt S x) c p → any (λ e. eqb (e .ptr .0) p) l ≡ true
-      → Reading S x r c l (valueAt (S .key) (S .has) p) l
-  absent : any (ofRow r) (writesOf x) ≡ false → any (visibleAt S x) c ≡ false → Reading S x r c l Absent l
+-- so the definition finds the first version with a visible creator
+pub first-of : (S : Store) (x : Tx) (l : List ℕ) → any (visibleAt S x) l ≡ true → FirstIn (VisibleAt S x) l (firstOf (visibleAt S x) l)
+first-of S x l h = first-says (visibleAt S x) (VisibleAt S x) (at-says S x) l h
+
+pub none-of : (S : Store) (x : Tx) (l : List ℕ) → any (visibleAt S x) l ≡ false → NoneIn (VisibleAt S x) l
+none-of S x l h = none-meant (visibleAt S x) (VisibleAt S x) (at-says S x) l h
 
 -- a member in the middle
 pub mem-mid : (p : ℕ) (before after : List ℕ) → memb p (before ++ p ∷ after) ≡ true
 mem-mid p [] after = mem-here p after
 mem-mid p (x ∷ before) after = mem-there p x (before ++ p ∷ after) (mem-mid p before after)
 
--- the definition finds the first
-pub first-of : (f : ℕ → Bool) (l : List ℕ) → any f l ≡ true → FirstIn f l (firstOf f l)
-first-of f [] h = clash {b = false} h refl
-first-of f (x ∷ l) h = by (f x)
-    (λ e. rw e (record { before = []; after = l; split = refl; none = refl; passes = e }))
-    (λ e. let r = first-of f l (rw e at h) in
-    rw e (record {
-      before = x ∷ r .before;
-      after = r .after;
-      split = ap (λ (m : List ℕ). x ∷ m) (r .split);
-      none = or-neither (f x) (any f (r .before)) e (r .none);
-      passes = r .passes;
-    }))
-
--- or none
+-- where no number passes there is none
 pub first-none : (f : ℕ → Bool) (l : List ℕ) → any f l ≡ false → firstOf f l ≡ 0
 first-none f [] h = refl
 first-none f (x ∷ l) h = let o = or-false (f x) (any f l) h in rw (o .0, first-none f l (o .1))
@@ -118,12 +84,7 @@ last-of r (w ∷ ws) h k =
     (λ o. rw (last-none r ws e, o) (record { before = []; after = ws; split = refl; row = eqb-true (w .row .0) r o; none = e }, a .0))
     (λ o. clash o e))
 
--- there is one first and one last
-first-is : (f : ℕ → Bool) (before : List ℕ) (p : ℕ) (after : List ℕ) → any f before ≡ false → f p ≡ true → firstOf f (before ++ p ∷ after) ≡ p
-first-is f [] p after n h = rw h
-first-is f (x ∷ before) p after n h = let o = or-false (f x) (any f before) n in rw (o .0) (first-is f before p after (o .1) h)
-
--- (of writes)
+-- there is one last
 last-is : (r : ℕ) (before : List Write) (w : Write) (after : List Write) → all taken (before ++ w ∷ after) ≡ true → w .row .0 ≡ r → any (ofRow r) after ≡ false
     → (lastOwn r (before ++ w ∷ after) ≡ w) × (taken w ≡ true)
 last-is r [] w after h e n = (rw (last-none r after n, eq-eqb (w .row .0) r e), and-true (taken w) (all taken after) h .0)
@@ -166,7 +127,7 @@ module _ (S : Store) (x : Tx) (L : ℕ → List ℕ) (z : Sized S) (R : Rests S 
   )
 
   -- a version found on a chain is no null pointer
-  found-some : (r p : ℕ) → r < rows → FirstIn (visibleAt S x) (L r) p → eqb p 0 ≡ false
+  found-some : (r p : ℕ) → r < rows → FirstIn (VisibleAt S x) (L r) p → eqb p 0 ≡ false
   found-some r p lt F =
       let in-rows : r < length (S .heads) = omega (arith, z .heads) in
       let b = chain-below (S .next) (getD (S .heads) r 0) (L r) p (R .mends .stands .chains .chain r in-rows)
@@ -179,50 +140,102 @@ module _ (S : Store) (x : Tx) (L : ℕ → List ℕ) (z : Sized S) (R : Rests S 
   reading r l lt =
       let v = visibleAt S x in
       by (any (ofRow r) (writesOf x))
-      (λ e. let o = own-ptr r e in rw (ptr-own r e, o .1) (own (lastOwn r (writesOf x)) (o .0)))
+      (λ e. let o = own-ptr r e in
+      rw (ptr-own r e, o .1) (own (lastOwn r (writesOf x)) (o .0) (value-says S (lastOwn r (writesOf x) .new .0))))
       (λ e. rw (ptr-else r lt e, last-none r (writesOf x) e)
       (by (any v (L r))
-      (λ s. let F = first-of v (L r) s in
+      (λ s. let F = first-of S x (L r) s in
       let p = firstOf v (L r) in
-      by (any (λ q. eqb (q .ptr .0) p) l)
-      (λ k. rw (found-some r p lt F, k) (known p e F k))
-      (λ k. rw (found-some r p lt F, k) (found p e F k)))
-      (λ s. rw (first-none v (L r) s, no-value) (absent e s))))
+      by (any (ofPtr p) l)
+      (λ k. rw (found-some r p lt F, k) (known p e F k (value-says S p)))
+      (λ k. rw (found-some r p lt F, k) (found p e F k (value-says S p))))
+      (λ s. rw (first-none v (L r) s) (absent e (none-of S x (L r) s) no-value))))
 
   -- the pointer, from what a reading says
   ptr-last : (r : ℕ) (w : Write) → lastOwn r (writesOf x) ≡ w → taken w ≡ true → readPtr S x r ≡ w .new .0
   unfolding readPtr
   ptr-last r w e t = rw (e, nonzero-ne (w .new .0) t)
 
-  ptr-first : (r p : ℕ) → r < rows → any (ofRow r) (writesOf x) ≡ false → FirstIn (visibleAt S x) (L r) p → readPtr S x r ≡ p
-  ptr-first r p lt e F = ptr-else r lt e ∙ rw (F .split) (first-is (visibleAt S x) (F .before) p (F .after) (F .none) (F .passes))
+  ptr-first : (r p : ℕ) → r < rows → any (ofRow r) (writesOf x) ≡ false → FirstIn (VisibleAt S x) (L r) p → readPtr S x r ≡ p
+  ptr-first r p lt e F =
+      ptr-else r lt e
+      ∙ rw (F .split) (first-one (visibleAt S x) (VisibleAt S x) (at-says S x) (F .before) p (F .after) (F .none) (F .passes))
+
+  ptr-none : (r : ℕ) → r < rows → any (ofRow r) (writesOf x) ≡ false → NoneIn (VisibleAt S x) (L r) → readPtr S x r ≡ 0
+  ptr-none r lt e n =
+      ptr-else r lt e ∙ first-none (visibleAt S x) (L r) (meant-none (visibleAt S x) (VisibleAt S x) (at-says S x) (L r) n)
 
   -- and nothing else is: a reading has one value and one list of reads
   pub reading-one : (r : ℕ) (l m : List ReadRecord) (v : Value) → r < rows → Reading S x r (L r) l v m
       → (v ≡ valueAt (S .key) (S .has) (readPtr S x r)) × (m ≡ recordRead S x r l)
   unfolding recordRead
-  reading-one r l m v lt (own w o) =
+  reading-one r l m v lt (own w o h) =
       let i = last-is r (o .before) w (o .after) (rw (o .split) at writes-taken) (o .row) (o .none) in
       let e : lastOwn r (writesOf x) ≡ w = rw (o .split) (i .0) in
       let p = ptr-last r w e (i .1) in
-      (rw p, rw (p, e, nonzero-ne (w .new .0) (i .1)))
-  reading-one r l m v lt (found p e F k) = let q = ptr-first r p lt e F in (rw q, rw (q, last-none r (writesOf x) e, found-some r p lt F, k))
-  reading-one r l m v lt (known p e F k) = let q = ptr-first r p lt e F in (rw q, rw (q, last-none r (writesOf x) e, found-some r p lt F, k))
-  reading-one r l m v lt (absent e s) =
-      (rw (ptr-else r lt e, first-none (visibleAt S x) (L r) s) (sym no-value), rw (ptr-else r lt e, first-none (visibleAt S x) (L r) s))
+      (rw p (value-one S (w .new .0) v h), rw (p, e, nonzero-ne (w .new .0) (i .1)))
+  reading-one r l m v lt (found p e F k h) =
+      let q = ptr-first r p lt e F in
+      (rw q (value-one S p v h), rw (q, last-none r (writesOf x) e, found-some r p lt F, k))
+  reading-one r l m v lt (known p e F k h) =
+      let q = ptr-first r p lt e F in
+      (rw q (value-one S p v h), rw (q, last-none r (writesOf x) e, found-some r p lt F, k))
+  reading-one r l m v lt (absent e n h) = let q = ptr-none r lt e n in (rw q (h ∙ sym no-value), rw q)
 
 -- an accepted read gives that value and those reads, and changes nothing else
 pub read-gives : (S : Store) (x : Tx) (L : ℕ → List ℕ) → Sized S → Rests S L → (r : ℕ) → numberOf (read S x r .refusal) ≡ 0
-    → (l : List ReadRecord) × Reading S x r (L r) (readsOf x) (read S x r .value) l × (read S x r .tx ≡ withReads l x) × (readsOf (read S x r .tx) ≡ l)
+    → Reads S x r (L r) (read S x r)
 read-gives S x L z R r h =
     let P = read-passed S x r h in
     let l = recordRead S x r (readsOf x) in
-    let a = read-accepted S x r h in (
-      l,
-      rw a (reading S x L z R (P .first .fits) r (readsOf x) (P .row)),
-      ap (λ (s : Seen). s .tx) a,
-      rw a (take-pad readLimit noRead l (P .room)),
-    )
+    let o = reads-alone x l (P .room) in
+    rw (read-accepted S x r h) (record {
+      after = l;
+      reading = reading S x L z R (P .first .fits) r (readsOf x) (P .row);
+      reads = o .1;
+      «index_reads» = o .2;
+      «index_read_count» = o .3;
+      «index_conflict» = o .4;
+      kept = o .0;
+    })
+
+-- "24 .. no room for a new read": exactly where what it would record doesn't fit, and else it is accepted
+module _ (S : Store) (x : Tx) (L : ℕ → List ℕ) (z : Sized S) (R : Rests S L) (P : Admitted S x) (healthy : S .poisoned ≡ false) (r : ℕ) (lt : r < rows) where
+  over : (ltb readLimit (length (recordRead S x r (readsOf x))) ≡ true) ↔ ReadTooMany S x r (L r)
+  over =
+      let m = recordRead S x r (readsOf x) in (
+        λ h. (valueAt (S .key) (S .has) (readPtr S x r), m, reading S x L z R (P .fits) r (readsOf x) lt, ltb-true readLimit (length m) h),
+        λ t. lt-ltb readLimit (length m) (rw (reading-one S x L z R (P .fits) r (readsOf x) (t .1) (t .0) lt (t .2) .1) at (t .3)),
+      )
+
+  pub read-full : (numberOf (read S x r .refusal) ≡ 24) ↔ ReadTooMany S x r (L r)
+  read-full =
+      let t = read-told S x r .2 .2 .2 .2 .2 .0 in (
+        λ h. over .0 (t .0 h .1),
+        λ m. t .1 ((rw (P .rests), (rw (P .fits), (rw (P .active), (healthy, (lt-leb rows r lt, tt))))), over .1 m),
+      )
+
+  pub read-done : (numberOf (read S x r .refusal) ≡ 0) ↔ (ReadTooMany S x r (L r) → ⊥)
+  read-done =
+      let t = read-told S x r .2 .2 .2 .2 .2 .2 in (
+        λ h m. clash (over .1 m) (t .0 h .1 .1 .1 .1 .1 .0),
+        λ n. t .1 (
+          rw (P .rests),
+          (
+            rw (P .fits),
+            (
+              rw (P .active),
+              (
+                healthy,
+                (
+                  lt-leb rows r lt,
+                  (by (ltb readLimit (length (recordRead S x r (readsOf x)))) (λ e. absurd (n (over .0 e))) (λ e. e), tt),
+                ),
+              ),
+            ),
+          ),
+        ),
+      )
 
 -- "recorded once per pointer": where no pointer stood twice, none does
 abbrev pub pointers : List ReadRecord → List ℕ
@@ -236,7 +249,7 @@ absent-more y (q ∷ l) e m n =
     or-neither (eqb y (q .ptr .0)) (memb y (pointers (l ++ e ∷ []))) (o .0) (absent-more y l e (o .1) n)
 
 -- one read more, of a new pointer
-unique-more : (l : List ReadRecord) (e : ReadRecord) → any (λ q. eqb (q .ptr .0) (e .ptr .0)) l ≡ false → unique (pointers l) ≡ true
+unique-more : (l : List ReadRecord) (e : ReadRecord) → any (ofPtr (e .ptr .0)) l ≡ false → unique (pointers l) ≡ true
     → unique (pointers (l ++ e ∷ [])) ≡ true
 unique-more [] e n u = refl
 unique-more (q ∷ l) e n u =
@@ -247,7 +260,7 @@ unique-more (q ∷ l) e n u =
 -- so a reading keeps them distinct
 pub once : {S : Store} {x : Tx} {r : ℕ} {c : List ℕ} {l m : List ReadRecord} {v : Value} → Reading S x r c l v m → unique (pointers l) ≡ true
     → unique (pointers m) ≡ true
-once (own w o) u = u
-once {S} {x} {r} {c} {l} (found p n f k) u = unique-more l (readOf r p (getD (S .xmin) p 0)) k u
-once (known p n f k) u = u
-once (absent n k) u = u
+once (own w o h) u = u
+once {S} {x} {r} {c} {l} (found p n f k h) u = unique-more l (readOf r p (getD (S .xmin) p 0)) k u
+once (known p n f k h) u = u
+once (absent n k h) u = u

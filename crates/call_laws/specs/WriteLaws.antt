@@ -31,7 +31,8 @@ use Rattle.admitted_laws.specs.Resting.{Rests, rests, rested}
 use Rattle.call_laws.specs.Refusals.{write-accepted}
 use Rattle.call_laws.specs.Passed.{write-passed}
 use Rattle.basic_laws.specs.Blanks.{all-both, all-more, all-mid, drop-pad}
-use Rattle.call_laws.specs.ReadLaws.{FirstIn, LastOf, ofRow, visibleAt, mem-mid, first-of, first-none, last-of, last-none, writes-taken}
+use Rattle.statements.specs.ReadWords.{VisibleAt, FirstIn, NoneIn, LastOf, ofRow}
+use Rattle.call_laws.specs.ReadLaws.{visibleAt, mem-mid, first-of, none-of, first-none, last-of, last-none, writes-taken}
 use Rattle.call_laws.specs.Counts.{SizedTx, blankWrite, counts-parts, parts-counts}
 use Rattle.call_laws.specs.Keeps.{Keeps}
 use Rattle.call_laws.specs.StaysFit.{fitsIn, on-same, writes-fit}
@@ -40,8 +41,8 @@ use Rattle.call_laws.specs.Took.{Lowest, lowest, took, took-is, took-siz
 -- "base is the found committed version's pointer (0 if none), kept for later writes of that row"; the chain of row r is c
 pub data Based (S : Store) (x : Tx) (r : ℕ) (c : List ℕ) : ℕ → Type 0 where
   kept : (w : Write) → LastOf r (writesOf x) w → Based S x r c (w .base .0)
-  found : (p : ℕ) → any (ofRow r) (writesOf x) ≡ false → FirstIn (visibleAt S x) c p → Based S x r c p
-  none : any (ofRow r) (writesOf x) ≡ false → any (visibleAt S x) c ≡ false → Based S x r c 0
+  found : (p : ℕ) → any (ofRow r) (writesOf x) ≡ false → FirstIn (VisibleAt S x) c p → Based S x r c p
+  none : any (ofRow r) (writesOf x) ≡ false → NoneIn (VisibleAt S x) c → Based S x r c 0
 
 -- a write record
 abbrev pub writeOf : ℕ → ℕ → ℕ → Write
@@ -95,8 +96,8 @@ module _ (S : Store) (x : Tx) (L : ℕ → List ℕ) (z : Sized S) (R : Rests S 
         chained-from (S .heads) (S .next) (walk (S .heads) (S .next) .seen) L (marks S L z (R .mends)) r (omega (arith, z .heads)),
       )
       (by (any v (L r))
-      (λ s. found (firstOf v (L r)) e (first-of v (L r) s))
-      (λ s. rw (first-none v (L r) s) (none e s))))
+      (λ s. found (firstOf v (L r)) e (first-of S x (L r) s))
+      (λ s. rw (first-none v (L r) s) (none e (none-of S x (L r) s)))))
 
   -- it is no more than the last slot
   base-within : (q : ℕ) → Based S x r (L r) q → q ≤ slots
