@@ -4,7 +4,8 @@ use mathlib.Core.Bool.{Bool, true, false, cond}
 use mathlib.Core.List.{List, [], _∷_, _++_}
 use Prim.Native.Nat.{ℕ, zero, suc, _≤_, _<_}
 use native.Mathlib.Omega.{arith}
-use lib.ListN.{length, getD, take, replicate, length-append, length-replicate}
+use lib.ListN.{length, getD, take, replicate, length-append, length-replicate, getD-replicate, List·getD-append}
+use lib.Seq.{getD-take, getD-append-seam, length-take-le}
 use Rattle.records.specs.Limits.{rows, activeLimit, writeLimit, readLimit, indexReadLimit, savepointLimit}
 use Rattle.records.specs.Zero.{noWrite, noRead, noIndexRead, onlyTxid, zeroTx}
 use Rattle.rules.specs.Lists.{pad}
@@ -15,38 +16,20 @@ use Rattle.rules.specs.Calls.{begin, read, write, lookup, rowLock, abort}
 use Rattle.rules.specs.Answer.{eventsOf, noEvents, noRecord, recordOf}
 use Rattle.basic_laws.specs.Cases.{by}
 use Rattle.basic_laws.specs.LaidOut.{pad-length}
+use Rattle.basic_laws.specs.Placed.{pad-here, pad-behind}
 use Rattle.statements.specs.CallWords.{ZeroWrite, ZeroRead, ZeroIndexRead, Zero, ZeroFrom, Empty, SameSnapshot, SameReads, SameIndexReads, SameSavepoints}
 use Rattle.statements.specs.CallWords.{ListsEmptied, AccessesEmptied, WritesEmptied, OnlyTxid, OneWriteMore, ZeroRecord, Names, NoFlag}
 
--- a list laid out in an array: its members at their places, the blank behind them
-module _ {A : Type 0} (z : A) where
-  pad-here : (n : ℕ) (l : List A) (d : A) (i : ℕ) → i < length l → length l ≤ n → getD (pad n z l) i d ≡ getD l i d
-  pad-here n [] d i lt le = absurd (omega arith)
-  pad-here zero (x ∷ l) d i lt le = absurd (omega arith)
-  pad-here (suc n) (x ∷ l) d zero lt le = refl
-  pad-here (suc n) (x ∷ l) d (suc i) lt le = pad-here n l d i (omega arith) (omega arith)
+-- behind a list that is laid out the places are zero entries, and an empty one has no others
+module _ {A : Type 0} (z : A) (Z : A → Type 0) (e : Z z) where
+  pub zero-behind : (n : ℕ) (l : List A) → ZeroFrom Z n (length l) (pad n z l)
+  zero-behind n l = record { long = pad-length n z l; zero = λ d i le lt. rw (pad-behind n z l d i le lt) e }
 
-  pad-behind : (n : ℕ) (l : List A) (d : A) (i : ℕ) → length l ≤ i → i < n → getD (pad n z l) i d ≡ z
-  pad-behind zero l d i le lt = absurd (omega arith)
-  pad-behind (suc n) [] d zero le lt = refl
-  pad-behind (suc n) [] d (suc i) le lt = pad-behind n [] d i (omega arith) (omega arith)
-  pad-behind (suc n) (x ∷ l) d zero le lt = absurd (omega arith)
-  pad-behind (suc n) (x ∷ l) d (suc i) le lt = pad-behind n l d i (omega arith) (omega arith)
+  none-laid : (n : ℕ) → Empty Z n (pad n z []) 0
+  none-laid n = record { none = refl; blank = zero-behind n [] }
 
-  replicate-at : (n : ℕ) (d : A) (i : ℕ) → i < n → getD (replicate n z) i d ≡ z
-  replicate-at zero d i lt = absurd (omega arith)
-  replicate-at (suc n) d zero lt = refl
-  replicate-at (suc n) d (suc i) lt = replicate-at n d i (omega arith)
-
-  -- so behind a list that is laid out the places are zero entries, and an empty one has no others
-  zero-behind : (Z : A → Type 0) → Z z → (n : ℕ) (l : List A) → ZeroFrom Z n (length l) (pad n z l)
-  zero-behind Z e n l = record { long = pad-length n z l; zero = λ d i le lt. rw (pad-behind n l d i le lt) e }
-
-  none-laid : (Z : A → Type 0) → Z z → (n : ℕ) → Empty Z n (pad n z []) 0
-  none-laid Z e n = record { none = refl; blank = zero-behind Z e n [] }
-
-  none-at-all : (Z : A → Type 0) → Z z → (n : ℕ) → Empty Z n (replicate n z) 0
-  none-at-all Z e n = record { none = refl; blank = record { long = length-replicate {A = A} n z; zero = λ d i le lt. rw (replicate-at n d i lt) e } }
+  none-at-all : (n : ℕ) → Empty Z n (replicate n z) 0
+  none-at-all n = record { none = refl; blank = record { long = length-replicate {A = A} n z; zero = λ d i le lt. rw (getD-replicate n i z d lt) e } }
 
 -- the zero entries are zero
 zero-write : ZeroWrite noWrite
@@ -110,3 +93,39 @@ only-txid t = record {
 pub zero-tx : OnlyTxid 0 zeroTx
 unfolding zeroTx
 zero-tx = only-txid 0
+
+-- a write more: the earlier ones stand where they stood, and nothing else changes
+pub one-write-more : (x : Tx) (r q p : ℕ) → x .«write_count» ≤ length (x .writes) → x .«write_count» < writeLimit
+    → OneWriteMore x (withWrites (writesOf x ++ record { row = record { 0 = r }; base = record { 0 = q }; new = record { 0 = p } } ∷ []) x) r q p
+one-write-more x r q p le lt = record {
+  snapshot = record { txid = refl; «snapshot_xmin» = refl; «snapshot_xmax» = refl; snapshot = refl; «snapshot_count» = refl };
+  «write_count» = all-long;
+  earlier = λ d i k.
+      pad-here writeLimit noWrite all d i (omega (arith, all-long)) (omega (arith, all-long))
+      ∙ List·getD-append (writesOf x) (w ∷ []) d i (omega (arith, long)) ∙ getD-take (x .«write_count») (x .writes) i d k;
+  row = λ d. ap (λ (v : Write). v .row .0) (new-at d);
+  base = λ d. ap (λ (v : Write). v .base .0) (new-at d);
+  new = λ d. ap (λ (v : Write). v .new .0) (new-at d);
+  behind = rw all-long at (zero-behind noWrite ZeroWrite zero-write writeLimit all);
+  reads = record { reads = refl; «read_count» = refl };
+  «index_reads» = record { «index_reads» = refl; «index_read_count» = refl };
+  savepoints = record { savepoints = refl; «savepoint_count» = refl };
+  «index_conflict» = refl;
+}
+  where
+    w : Write
+    w = record { row = record { 0 = r }; base = record { 0 = q }; new = record { 0 = p } }
+
+    all : List Write
+    all = writesOf x ++ w ∷ []
+
+    long : length (writesOf x) ≡ x .«write_count»
+    long = length-take-le (x .«write_count») (x .writes) le
+
+    all-long : length all ≡ suc (x .«write_count»)
+    all-long = rw (length-append (writesOf x) (w ∷ []), long) (omega arith)
+
+    new-at : (d : Write) → getD (pad writeLimit noWrite all) (x .«write_count») d ≡ w
+    new-at d =
+        pad-here writeLimit noWrite all d (x .«write_count») (omega (arith, all-long)) (omega (arith, all-long))
+        ∙ (rw long at (getD-append-seam (writesOf x) w [] d))

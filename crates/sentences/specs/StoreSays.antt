@@ -20,7 +20,7 @@ use Rattle.basic_laws.specs.Cases.{by, clash, or-true, or-false, or-left, or-ri
 use Rattle.basic_laws.specs.Rising.{mem-into, rising-into, into-length, mem-without, rising-without, without-length}
 use Rattle.basic_laws.specs.LaidOut.{pad-length}
 use Rattle.basic_laws.specs.Placed.{getD-any, packed-of, packed-rising, packed-members, before-first}
-use Rattle.statements.specs.StoreWords.{Sets, Packed, Blank, storedKey, isPresent, Part, Heads, Xmin, Xmax, Next, Values, Locks, Postings, StripeGuards}
+use Rattle.statements.specs.StoreWords.{Sets, Packed, Blank, storedKey, isPresent, Part, Heads, Xmin, Xmax, Next, Values, RowLocks, Postings, StripeGuards}
 use Rattle.statements.specs.StoreWords.{PartitionGuards, Stamps, Active, Clock, Poisoned, Doomed, Bound, Kept, changedBy, StoreKinds, Taken}
 use Rattle.statements.specs.StoreWords.{PaperNumbers, Remainder}
 
@@ -51,7 +51,7 @@ kept p S Xmin n = let h = not-two (p .kind) kFree kXmin n in rw (h .0, h .1)
 kept p S Xmax n = let h = not-two (p .kind) kFree kXmax n in rw (h .0, h .1)
 kept p S Next n = let h = not-two (p .kind) kFree kNext n in rw (h .0, h .1)
 kept p S Values n = let h = not-two (p .kind) kFree kKey n in (rw (h .0, h .1), rw (h .0, h .1))
-kept p S Locks n = let h = not-two (p .kind) kFree kLock n in (rw (h .0, h .1), rw (h .0, h .1))
+kept p S RowLocks n = let h = not-two (p .kind) kFree kLock n in (rw (h .0, h .1), rw (h .0, h .1))
 kept p S Postings n = let h = not-two (p .kind) kInsert kRemove n in (rw (h .0, h .1), rw (h .0, h .1))
 kept p S StripeGuards n = rw (not-one (p .kind) kStripe n)
 kept p S PartitionGuards n = rw (not-one (p .kind) kPartition n)
@@ -212,8 +212,8 @@ slot-taken S p t q v B = record {
     slot-else (Key k) Heads a b c = refl
     slot-else Absent Xmax a b c = refl
     slot-else (Key k) Xmax a b c = refl
-    slot-else Absent Locks a b c = (refl, refl)
-    slot-else (Key k) Locks a b c = (refl, refl)
+    slot-else Absent RowLocks a b c = (refl, refl)
+    slot-else (Key k) RowLocks a b c = (refl, refl)
     slot-else Absent Postings a b c = (refl, refl)
     slot-else (Key k) Postings a b c = (refl, refl)
     slot-else Absent StripeGuards a b c = refl

@@ -1,14 +1,17 @@
 -- "Other calls" in words: begin, write, row lock, abort, recovery; what is emptied and what is kept.
 use mathlib.Core.Path.{_≡_}
-use mathlib.Core.Bool.{Bool, true, false}
+use mathlib.Core.Bool.{Bool, true, false, _||_}
 use mathlib.Core.List.{List, [], _∷_, _++_}
 use mathlib.Core.Logic.{_≢_, _⊎_}
 use Prim.Native.Nat.{ℕ, suc, _+_, _*_, _≤_, _<_}
-use lib.ListN.{length, getD}
+use lib.ListN.{length, getD, take}
+use lib.Dec.{eqb}
 use Rattle.records.specs.Limits.{rows, places, stripes, partitions, postingLimit, activeLimit, writeLimit, readLimit, indexReadLimit, savepointLimit}
-use Rattle.rules.specs.Lists.{memb}
+use Rattle.rules.specs.Lists.{any, memb, without}
 use Rattle.rules.specs.Types.{Store, Tx, Write, ReadRecord, IndexRead, Value, Absent, Key, Record, Events, Reply, Seen, Written, Found, Mended}
-use Rattle.statements.specs.StoreWords.{Sets, Packed, SameSlot, Blank}
+use Rattle.rules.specs.Store.{activeTxids}
+use Rattle.statements.specs.StoreWords.{Packed, Blank, SameSlot, Part, Active, Clock, RowLocks, Kept, Lowest, Taken}
+use Rattle.statements.specs.ReadWords.{VisibleAt, NoneIn, FirstIn, LastOf, itsWrites, ofRow}
 
 -- WHAT IS EMPTIED AND WHAT IS KEPT
 
@@ -168,3 +171,84 @@ pub record RefusedLookup (x : Tx) (a : Found) : Type 0 where
 pub record RefusedReply (S : Store) (x : Tx) (a : Reply) : Type 0 where
   pub store : a .store ≡ S
   pub tx : a .tx ≡ x
+
+-- BEGIN
+
+-- the smallest of the active txids, or the new one
+pub record Smallest (l : List ℕ) (t m : ℕ) : Type 0 where
+  pub either : (memb m l || eqb m t) ≡ true
+  pub least : (u : ℕ) → memb u l ≡ true → m ≤ u
+  pub within : m ≤ t
+
+-- "txid and snapshot_xmax are the clock, which then rises; snapshot holds the earlier active list; snapshot_xmin is its smallest or the txid"; the
+-- txid is entered behind the others, every list of the transaction is empty, and nothing else of the store changes
+pub record Begins (S : Store) (a : Reply) : Type 0 where
+  pub txid : a .tx .txid .0 ≡ S .clock
+  pub fresh : memb (S .clock) (activeTxids (S .active)) ≡ false
+  pub latest : a .tx .«snapshot_xmax» .0 ≡ S .clock
+  pub earliest : Smallest (activeTxids (S .active)) (S .clock) (a .tx .«snapshot_xmin» .0)
+  pub snapshot : take (a .tx .«snapshot_count») (a .tx .snapshot) ≡ activeTxids (S .active)
+  pub behind : ZeroFrom Zero activeLimit (a .tx .«snapshot_count») (a .tx .snapshot)
+  pub writes : Empty ZeroWrite writeLimit (a .tx .writes) (a .tx .«write_count»)
+  pub reads : Empty ZeroRead readLimit (a .tx .reads) (a .tx .«read_count»)
+  pub «index_reads» : Empty ZeroIndexRead indexReadLimit (a .tx .«index_reads») (a .tx .«index_read_count»)
+  pub savepoints : Empty Zero savepointLimit (a .tx .savepoints) (a .tx .«savepoint_count»)
+  pub «index_conflict» : a .tx .«index_conflict» ≡ false
+  pub active : activeTxids (a .store .active) ≡ activeTxids (S .active) ++ S .clock ∷ []
+  pub after : ZeroFrom Zero activeLimit (suc (length (activeTxids (S .active)))) (a .store .active)
+  pub risen : a .store .clock ≡ suc (S .clock)
+  pub else : (part : Part) → part ≢ Active → part ≢ Clock → Kept S (a .store) part
+
+-- WRITE
+
+-- "base is the found committed version's pointer (0 if none), kept for later writes of that row"; the chain of row r is c
+pub data Based (S : Store) (x : Tx) (r : ℕ) (c : List ℕ) : ℕ → Type 0 where
+  kept : (w : Write) → LastOf r (itsWrites x) w → Based S x r c (w .base .0)
+  found : (p : ℕ) → any (ofRow r) (itsWrites x) ≡ false → FirstIn (VisibleAt S x) c p → Based S x r c p
+  none : any (ofRow r) (itsWrites x) ≡ false → NoneIn (VisibleAt S x) c → Based S x r c 0
+
+-- "no read recorded; the lowest free slot is taken": one write more in the transaction, that slot taken in the store, and nothing else changes. The
+-- taken slot has xmax 0 and no lock
+pub record Writes (S : Store) (x : Tx) (r : ℕ) (v : Value) (c : List ℕ) (a : Written) : Type 0 where
+  pub slot : Lowest (S .xmin) (a .slot .0)
+  pub base : ℕ
+  pub based : Based S x r c base
+  pub tx : OneWriteMore x (a .tx) r base (a .slot .0)
+  pub store : Taken S (a .store) (a .slot .0) (x .txid .0) base v
+  pub unmarked : getD (a .store .xmax) (a .slot .0) 0 ≡ 0
+  pub unlocked : getD (a .store .locked) (a .slot .0) false ≡ false
+  pub unowned : getD (a .store .owner) (a .slot .0) 0 ≡ 0
+
+-- ROW LOCK
+
+-- "Row lock: on the head": the head is locked by the transaction, every other slot is as it was, and nothing else changes
+pub record Locks (S : Store) (x : Tx) (r : ℕ) (a : Reply) : Type 0 where
+  pub locked : getD (a .store .locked) (getD (S .heads) r 0) false ≡ true
+  pub owner : getD (a .store .owner) (getD (S .heads) r 0) 0 ≡ x .txid .0
+  pub otherLocks : (p : ℕ) → p ≢ getD (S .heads) r 0 → getD (a .store .locked) p false ≡ getD (S .locked) p false
+  pub otherOwners : (p : ℕ) → p ≢ getD (S .heads) r 0 → getD (a .store .owner) p 0 ≡ getD (S .owner) p 0
+  pub else : (part : Part) → part ≢ RowLocks → Kept S (a .store) part
+  pub tx : a .tx ≡ x
+
+-- ABORT
+
+-- "frees .. every off-chain slot of the txid, then drops it from the active list and zeroes the transaction but for its txid": every other slot is as
+-- it was, the other txids stay in their order with zero after them, and nothing else of the store changes. The chain of row r is L r
+pub record Aborts (S : Store) (x : Tx) (L : ℕ → List ℕ) (a : Reply) : Type 0 where
+  pub freed : (p : ℕ) → getD (S .xmin) p 0 ≡ x .txid .0 → ((r : ℕ) → r < length (S .heads) → memb p (L r) ≡ false) → Blank (a .store) p
+  pub others : (p : ℕ) → getD (S .xmin) p 0 ≢ x .txid .0 → SameSlot S (a .store) p
+  pub chained : (r p : ℕ) → r < length (S .heads) → memb p (L r) ≡ true → SameSlot S (a .store) p
+  pub gone : memb (x .txid .0) (activeTxids (a .store .active)) ≡ false
+  pub listed : activeTxids (a .store .active) ≡ without (x .txid .0) (activeTxids (S .active))
+  pub after : ZeroFrom Zero activeLimit (length (activeTxids (a .store .active))) (a .store .active)
+  pub heads : a .store .heads ≡ S .heads
+  pub postings : a .store .postings ≡ S .postings
+  pub «posting_count» : a .store .«posting_count» ≡ S .«posting_count»
+  pub «stripe_guards» : a .store .«stripe_guards» ≡ S .«stripe_guards»
+  pub «partition_guards» : a .store .«partition_guards» ≡ S .«partition_guards»
+  pub stamps : a .store .stamps ≡ S .stamps
+  pub clock : a .store .clock ≡ S .clock
+  pub poisoned : a .store .poisoned ≡ S .poisoned
+  pub doomed : a .store .doomed ≡ S .doomed
+  pub bound : a .store .bound ≡ S .bound
+  pub tx : OnlyTxid (x .txid .0) (a .tx)

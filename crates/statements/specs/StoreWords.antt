@@ -8,7 +8,7 @@ use lib.ListN.{length, getD}
 use Rattle.records.specs.Limits.{rows, slots, places, postingLimit, stripes, partitions, activeLimit, writeLimit, readLimit, indexReadLimit}
 use Rattle.records.specs.Limits.{savepointLimit, stepCount, keyEnd, clockEnd, placeLimit}
 use Rattle.rules.specs.Lists.{memb}
-use Rattle.rules.specs.Types.{Store, Write, Value, Absent, Key}
+use Rattle.rules.specs.Types.{Store, Value, Absent, Key}
 use Rattle.rules.specs.Puts.{Put, apply, kStripe, kPartition, kInsert, kRemove, kXmax, kHead, kFree, kDrop, kStamp, kPoison, kDoom}
 use Rattle.rules.specs.Puts.{kEnter, kClock, kXmin, kNext, kKey, kLock, putStripe, putPartition, putInsert, putRemove, putXmax, putHead, putFree}
 use Rattle.rules.specs.Puts.{putDrop, putStamp, putPoison, putDoom, putEnter, putClock, putXmin, putNext, putKey, putLock}
@@ -68,7 +68,7 @@ pub data Part : Type 0 where
   Xmax : Part
   Next : Part
   Values : Part
-  Locks : Part
+  RowLocks : Part
   Postings : Part
   StripeGuards : Part
   PartitionGuards : Part
@@ -86,7 +86,7 @@ Kept S T Xmin = T .xmin ≡ S .xmin
 Kept S T Xmax = T .xmax ≡ S .xmax
 Kept S T Next = T .next ≡ S .next
 Kept S T Values = (T .key ≡ S .key) × (T .has ≡ S .has)
-Kept S T Locks = (T .locked ≡ S .locked) × (T .owner ≡ S .owner)
+Kept S T RowLocks = (T .locked ≡ S .locked) × (T .owner ≡ S .owner)
 Kept S T Postings = (T .postings ≡ S .postings) × (T .«posting_count» ≡ S .«posting_count»)
 Kept S T StripeGuards = T .«stripe_guards» ≡ S .«stripe_guards»
 Kept S T PartitionGuards = T .«partition_guards» ≡ S .«partition_guards»
@@ -104,7 +104,7 @@ changedBy Xmin = kFree ∷ kXmin ∷ []
 changedBy Xmax = kFree ∷ kXmax ∷ []
 changedBy Next = kFree ∷ kNext ∷ []
 changedBy Values = kFree ∷ kKey ∷ []
-changedBy Locks = kFree ∷ kLock ∷ []
+changedBy RowLocks = kFree ∷ kLock ∷ []
 changedBy Postings = kInsert ∷ kRemove ∷ []
 changedBy StripeGuards = kStripe ∷ []
 changedBy PartitionGuards = kPartition ∷ []
@@ -215,9 +215,3 @@ pub record Lowest (xmin : List ℕ) (p : ℕ) : Type 0 where
   pub within : p < length xmin
   pub free : getD xmin p 0 ≡ 0
   pub least : (q : ℕ) → 0 < q → q < p → 0 < getD xmin q 0
-
--- "the last own write of the row", at place i of the writes
-pub record LastWrite (ws : List Write) (r i : ℕ) : Type 0 where
-  pub within : i < length ws
-  pub row : (d : Write) → getD ws i d .row .0 ≡ r
-  pub last : (d : Write) (j : ℕ) → i < j → j < length ws → getD ws j d .row .0 ≢ r
