@@ -2,19 +2,19 @@
 use mathlib.Core.Path.{_≡_, refl, sym, ap, _∙_}
 use mathlib.Core.Bool.{Bool, true, false, cond}
 use mathlib.Core.List.{List, [], _∷_, _++_}
-use Prim.Native.Nat.{ℕ, zero, suc, _≤_, _<_}
+use mathlib.Core.Logic.{_≢_}
+use Prim.Native.Nat.{ℕ, suc, _≤_, _<_}
 use native.Mathlib.Omega.{arith}
 use lib.ListN.{length, getD, take, replicate, length-append, length-replicate, getD-replicate, List·getD-append}
 use lib.Seq.{getD-take, getD-append-seam, length-take-le}
 use Rattle.records.specs.Limits.{rows, activeLimit, writeLimit, readLimit, indexReadLimit, savepointLimit}
 use Rattle.records.specs.Zero.{noWrite, noRead, noIndexRead, onlyTxid, zeroTx}
 use Rattle.rules.specs.Lists.{pad}
-use Rattle.rules.specs.Types.{Store, Tx, Write, Value, Refusal, Done}
+use Rattle.rules.specs.Types.{Tx, Write, Refusal, Done}
 use Rattle.rules.specs.Transaction.{writesOf, finals, withWrites, noWrites, noAccesses, emptied}
-use Rattle.rules.specs.Numbers.{numberOf, isDone}
-use Rattle.rules.specs.Calls.{begin, read, write, lookup, rowLock, abort}
+use Rattle.rules.specs.Numbers.{numberOf}
 use Rattle.rules.specs.Answer.{eventsOf, noEvents, noRecord, recordOf}
-use Rattle.basic_laws.specs.Cases.{by}
+use borrow.Author.Tests.{ne-eqb}
 use Rattle.basic_laws.specs.LaidOut.{pad-length}
 use Rattle.basic_laws.specs.Placed.{pad-here, pad-behind}
 use Rattle.statements.specs.CallWords.{ZeroWrite, ZeroRead, ZeroIndexRead, Zero, ZeroFrom, Empty, SameSnapshot, SameReads, SameIndexReads, SameSavepoints}
@@ -28,17 +28,17 @@ module _ {A : Type 0} (z : A) (Z : A → Type 0) (e : Z z) where
   none-laid : (n : ℕ) → Empty Z n (pad n z []) 0
   none-laid n = record { none = refl; blank = zero-behind n [] }
 
-  none-at-all : (n : ℕ) → Empty Z n (replicate n z) 0
+  pub none-at-all : (n : ℕ) → Empty Z n (replicate n z) 0
   none-at-all n = record { none = refl; blank = record { long = length-replicate {A = A} n z; zero = λ d i le lt. rw (getD-replicate n i z d lt) e } }
 
 -- the zero entries are zero
-zero-write : ZeroWrite noWrite
+pub zero-write : ZeroWrite noWrite
 zero-write = (refl, refl, refl)
 
-zero-read : ZeroRead noRead
+pub zero-read : ZeroRead noRead
 zero-read = (refl, refl, refl)
 
-zero-index-read : ZeroIndexRead noIndexRead
+pub zero-index-read : ZeroIndexRead noIndexRead
 zero-index-read = (refl, refl)
 
 -- '"Lists emptied" clears writes, reads, index reads and savepoints and lowers index_conflict; the snapshot stays'
@@ -129,3 +129,50 @@ one-write-more x r q p le lt = record {
     new-at d =
         pad-here writeLimit noWrite all d (x .«write_count») (omega (arith, all-long)) (omega (arith, all-long))
         ∙ (rw long at (getD-append-seam (writesOf x) w [] d))
+
+-- "The record is zero unless 0"
+pub zero-record : ZeroRecord noRecord
+unfolding noRecord
+zero-record = record { txid = refl; writes = none-at-all noWrite ZeroWrite zero-write writeLimit }
+
+pub record-zero : (why : Refusal) (x : Tx) → numberOf why ≢ 0 → ZeroRecord (recordOf why x)
+unfolding recordOf
+record-zero why x n = rw (ne-eqb (numberOf why) 0 n) zero-record
+
+-- 0: it names the transaction and its final writes
+pub record-names : (x : Tx) → length (finals x) ≤ writeLimit → Names (x .txid .0) (finals x) (recordOf Done x)
+unfolding recordOf
+record-names x le = record {
+  txid = refl;
+  count = refl;
+  writes = λ d i lt. pad-here writeLimit noWrite (finals x) d i lt le;
+  behind = zero-behind noWrite ZeroWrite zero-write writeLimit (finals x);
+}
+
+-- "zero on 1, 2, 3 and 18"
+pub no-flag : NoFlag noEvents
+unfolding noEvents eventsOf
+no-flag = record {
+  «index_locked» = refl;
+  «partition_locked» = refl;
+  «index_validated» = refl;
+  «row_lock_validated» = refl;
+  «serial_validated» = refl;
+  «base_validated» = refl;
+  «write_ahead» = refl;
+  «durably_bound» = refl;
+  «has_writes» = refl;
+  «unlogged_write_checked» = refl;
+  «health_checked» = refl;
+  «health_cleanup_required» = refl;
+  «record_prepared» = refl;
+  «payload_prepared» = refl;
+  «preparation_cleanup_required» = refl;
+  «destinations_prepared» = refl;
+  «callback_complete» = refl;
+  prepared = refl;
+  «rows_published» = refl;
+  deregistered = refl;
+  stamped = refl;
+  poisoned = refl;
+}
