@@ -3,17 +3,18 @@ use mathlib.Core.Path.{_≡_, refl, sym, ap, _∙_}
 use mathlib.Core.Bool.{Bool, true, false, not, cond, _&&_, _||_}
 use mathlib.Core.List.{List, [], _∷_, _++_}
 use mathlib.Core.Logic.{_≢_, _⊎_, inl, inr, ⊎-elim, _↔_}
-use Prim.Native.Nat.{ℕ, zero, suc, _+_, _*_, _/_, _%_, _≤_, _<_}
+use Prim.Native.Nat.{ℕ, zero, suc, _+_, _*_, _/_, _%_, _-_, _≤_, _<_}
 use native.Mathlib.Omega.{arith}
-use lib.ListN.{length, getD, set, take, length-set, length-append, List·getD-eq-default}
-use lib.Seq.{getD-set-same, getD-set-other, getD-take, length-take-le}
+use lib.ListN.{length, getD, set, take, drop, length-set, length-drop, length-append}
+use lib.Seq.{getD-set-same, getD-set-other, getD-drop, length-take-le}
 use lib.Dec.{eqb, ltb, leb}
 use borrow.Author.Tests.{eqb-true, eqb-false, eq-eqb, ne-eqb, ltb-true, lt-ltb, le-ltb, not-true}
 use Rattle.records.specs.Limits.{rows, postingLimit, stripes, partitions, activeLimit}
 use Rattle.records.specs.Relations.{rows-some, stripes-some}
-use Rattle.rules.specs.Lists.{memb, rising, into, without, pad, beforeZero}
+use Rattle.rules.specs.Lists.{memb, rising, into, without, pad, firstZero}
 use Rattle.rules.specs.Types.{Store, Write, Value, Absent, Key}
 use Rattle.rules.specs.Store.{postingsOf, activeTxids, posting, keyOf, rowOf, stripeOf, partitionOf}
+use Rattle.rules.specs.Calls.{lowestFree}
 use Rattle.rules.specs.Puts.{Put, apply, applyAll, takeSlot, posts, enters, kStripe, kPartition, kInsert, kRemove}
 use Rattle.rules.specs.Puts.{kXmax, kHead, kFree, kDrop, kStamp, kPoison, kDoom, kEnter, kClock, kXmin, kNext, kKey, kLock}
 use Rattle.basic_laws.specs.Cases.{by, clash, or-true, or-false, or-left, or-right, and-true, and-both, mem-here, mem-there}
@@ -22,7 +23,7 @@ use Rattle.basic_laws.specs.LaidOut.{pad-length}
 use Rattle.basic_laws.specs.Placed.{getD-any, packed-of, packed-rising, packed-members, before-first}
 use Rattle.statements.specs.StoreWords.{Sets, Packed, Blank, storedKey, isPresent, Part, Heads, Xmin, Xmax, Next, Values, RowLocks, Postings, StripeGuards}
 use Rattle.statements.specs.StoreWords.{PartitionGuards, Stamps, Active, Clock, Poisoned, Doomed, Bound, Kept, changedBy, StoreKinds, Taken}
-use Rattle.statements.specs.StoreWords.{PaperNumbers, Remainder}
+use Rattle.statements.specs.StoreWords.{PaperNumbers, Remainder, Lowest}
 
 -- one place set
 module _ {A : Type 0} where
@@ -178,6 +179,27 @@ module _ (S : Store) where
     doom = λ t. refl;
   }
 
+-- parts with different numbers are different parts
+abbrev pub number : Part → ℕ
+number Heads = 0
+number Xmin = 1
+number Xmax = 2
+number Next = 3
+number Values = 4
+number RowLocks = 5
+number Postings = 6
+number StripeGuards = 7
+number PartitionGuards = 8
+number Stamps = 9
+number Active = 10
+number Clock = 11
+number Poisoned = 12
+number Doomed = 13
+number Bound = 14
+
+pub differ : (a b : Part) → eqb (number a) (number b) ≡ false → a ≢ b
+differ a b n e = clash (eq-eqb (number a) (number b) (ap number e)) n
+
 -- "the lowest free slot is taken": a blank slot p taken for a version of t
 pub slot-taken : (S : Store) (p t q : ℕ) (v : Value) → Blank S p → Taken S (applyAll (takeSlot p t q v) S) p t q v
 slot-taken S p t q v B = record {
@@ -232,3 +254,45 @@ slot-taken S p t q v B = record {
     slot-else (Key k) Doomed a b c = refl
     slot-else Absent Bound a b c = refl
     slot-else (Key k) Bound a b c = refl
+
+-- nonzero numbers before a place, and one more in front
+up : (x : ℕ) (l : List ℕ) (i : ℕ) → 0 < x → ((j : ℕ) → j < i → 0 < getD l j 0) → (j : ℕ) → j < suc i → 0 < getD (x ∷ l) j 0
+up x l i n h zero lt = n
+up x l i n h (suc j) lt = h j (omega arith)
+
+-- the first 0 of an array, counted from a number past 0
+first-zero : (k : ℕ) (l : List ℕ) → (firstZero (suc k) l ≡ 0 → ⊥)
+    → (i : ℕ) × (firstZero (suc k) l ≡ suc k + i) × (i < length l) × (getD l i 0 ≡ 0) × ((j : ℕ) → j < i → 0 < getD l j 0)
+first-zero k [] n = absurd (n refl)
+first-zero k (x ∷ l) n = by (eqb x 0)
+    (λ e. (zero, rw e (omega arith), omega arith, eqb-true x 0 e, λ j lt. absurd (omega arith)))
+    (λ e. let r = first-zero (suc k) l (λ q. n (rw e q)) in
+    (suc (r .0), rw e (omega (arith, r .1)), omega (arith, r .2), r .3, up x l (r .0) (omega (arith, eqb-false x 0 e)) (r .4)))
+
+-- "the lowest free slot": the definition finds it
+pub lowest : (xmin : List ℕ) → (lowestFree xmin ≡ 0 → ⊥) → Lowest xmin (lowestFree xmin)
+unfolding lowestFree
+lowest xmin n =
+    let r = first-zero 0 (drop 1 xmin) n in
+    let at : (i : ℕ) → getD (drop 1 xmin) i 0 ≡ getD xmin (1 + i) 0 = λ i. getD-drop 1 xmin i 0 in
+    rw (r .1) (record {
+      some = omega arith;
+      within = omega (arith, r .2, length-drop 1 xmin);
+      free = sym (at (r .0)) ∙ r .3;
+      least = λ q pos lt.
+          let e : 1 + (q - 1) ≡ q = omega arith in
+          rw (at (q - 1), e) at (r .4 (q - 1) (omega arith));
+    })
+
+-- and 0 where there is none
+pub none-free : (xmin : List ℕ) → lowestFree xmin ≡ 0 → (p : ℕ) → 0 < p → p < length xmin → 0 < getD xmin p 0
+unfolding lowestFree
+none-free xmin e p pos lt =
+    let k : 1 + (p - 1) ≡ p = omega arith in
+    rw (getD-drop 1 xmin (p - 1) 0, k) at (none 0 (drop 1 xmin) e (p - 1) (omega (arith, length-drop 1 xmin)))
+  where
+    none : (k : ℕ) (l : List ℕ) → firstZero (suc k) l ≡ 0 → (i : ℕ) → i < length l → 0 < getD l i 0
+    none k [] e i lt = absurd (omega arith)
+    none k (x ∷ l) e i lt = by (eqb x 0)
+        (λ q. absurd (let h : suc k ≡ 0 = rw q at e in omega (arith, h)))
+        (λ q. up x l (length l) (omega (arith, eqb-false x 0 q)) (λ j lj. none (suc k) l (rw q at e) j lj) i lt)
