@@ -10,6 +10,7 @@ use Rattle.records.specs.Limits.{rows, places, stripes, partitions, postingLimi
 use Rattle.rules.specs.Lists.{any, memb, without}
 use Rattle.rules.specs.Types.{Store, Tx, Write, ReadRecord, IndexRead, Value, Absent, Key, Record, Events, Reply, Seen, Written, Found, Mended}
 use Rattle.rules.specs.Store.{activeTxids}
+use Rattle.statements.specs.Sized.{Sized}
 use Rattle.statements.specs.StoreWords.{Packed, Blank, SameSlot, Part, Active, Clock, RowLocks, Kept, Lowest, Taken}
 use Rattle.statements.specs.ReadWords.{VisibleAt, NoneIn, FirstIn, LastOf, itsWrites, ofRow}
 
@@ -252,3 +253,59 @@ pub record Aborts (S : Store) (x : Tx) (L : ℕ → List ℕ) (a : Reply) : Type
   pub doomed : a .store .doomed ≡ S .doomed
   pub bound : a .store .bound ≡ S .bound
   pub tx : OnlyTxid (x .txid .0) (a .tx)
+
+-- RECOVERY
+
+-- '"Unfinished" means active or doomed'; 0, no txid, is neither
+abbrev pub Unfinished : Store → ℕ → Type 0
+Unfinished S t = (t ≢ 0) × ((memb t (S .active) ≡ true) ⊎ (t ≡ S .doomed))
+
+-- on a chain: a head, or next to a slot on a chain
+pub data Reached (heads next : List ℕ) : ℕ → Type 0 where
+  head : (r : ℕ) → r < length heads → getD heads r 0 ≢ 0 → Reached heads next (getD heads r 0)
+  along : (p : ℕ) → Reached heads next p → getD next p 0 ≢ 0 → Reached heads next (getD next p 0)
+
+-- p is the head of a row
+abbrev pub IsHead : Store → ℕ → Type 0
+IsHead S p = (r : ℕ) × (r < rows) × (getD (S .heads) r 0 ≡ p)
+
+-- the head of row r has a value, and c is its posting, (key, row)
+abbrev pub HeadPosting : Store → ℕ → Type 0
+HeadPosting S c =
+    (r : ℕ) × (r < rows) × (getD (S .has) (getD (S .heads) r 0) false ≡ true) × (c ≡ getD (S .key) (getD (S .heads) r 0) 0 * rows + r)
+
+-- every place of an array of n is 0
+abbrev pub AllZero : ℕ → List ℕ → Type 0
+AllZero n l = (length l ≡ n) × ((i : ℕ) → getD l i 0 ≡ 0)
+
+-- what recovery makes of a repairable store S, row by row and slot by slot
+pub record Repaired (S D : Store) : Type 0 where
+  pub sized : Sized D
+  -- "it removes an unfinished first version", and no other
+  pub removed : (r : ℕ) → r < rows → getD (S .heads) r 0 ≢ 0 → Unfinished S (getD (S .xmin) (getD (S .heads) r 0) 0)
+      → getD (D .heads) r 0 ≡ getD (S .next) (getD (S .heads) r 0) 0
+  pub stays : (r : ℕ) → r < rows → (Unfinished S (getD (S .xmin) (getD (S .heads) r 0) 0) → ⊥) → getD (D .heads) r 0 ≡ getD (S .heads) r 0
+  -- the other versions of each chain stay: creator, next and value
+  pub xmin : (p : ℕ) → Reached (D .heads) (S .next) p → getD (D .xmin) p 0 ≡ getD (S .xmin) p 0
+  pub next : (p : ℕ) → Reached (D .heads) (S .next) p → getD (D .next) p 0 ≡ getD (S .next) p 0
+  pub key : (p : ℕ) → Reached (D .heads) (S .next) p → getD (D .key) p 0 ≡ getD (S .key) p 0
+  pub has : (p : ℕ) → Reached (D .heads) (S .next) p → getD (D .has) p false ≡ getD (S .has) p false
+  -- "sets an unfinished head xmax to 0", and no other
+  pub cleared : (p : ℕ) → Reached (D .heads) (S .next) p → IsHead D p → Unfinished S (getD (S .xmax) p 0) → getD (D .xmax) p 0 ≡ 0
+  pub marked : (p : ℕ) → Reached (D .heads) (S .next) p → (IsHead D p → Unfinished S (getD (S .xmax) p 0) → ⊥) → getD (D .xmax) p 0 ≡ getD (S .xmax) p 0
+  -- "frees off-chain slots"
+  pub freed : (p : ℕ) → (Reached (D .heads) (S .next) p → ⊥) → Blank D p
+  -- "rebuilds postings": exactly those of the heads
+  pub postings : Packed (D .postings) (D .«posting_count») (HeadPosting D)
+  -- "clears guards, row locks, active list, poison and doom"
+  pub «stripe_guards» : AllZero stripes (D .«stripe_guards»)
+  pub «partition_guards» : AllZero partitions (D .«partition_guards»)
+  pub unlocked : (p : ℕ) → getD (D .locked) p false ≡ false
+  pub unowned : (p : ℕ) → getD (D .owner) p 0 ≡ 0
+  pub active : AllZero activeLimit (D .active)
+  pub healthy : D .poisoned ≡ false
+  pub undoomed : D .doomed ≡ 0
+  -- "Clock, stamps and durably bound stay."
+  pub clock : D .clock ≡ S .clock
+  pub stamps : D .stamps ≡ S .stamps
+  pub bound : D .bound ≡ S .bound
