@@ -11,7 +11,7 @@ use lib.Dec.{eqb}
 use borrow.Author.Tests.{eqb-true, eqb-false, eq-eqb, ne-eqb}
 use Rattle.records.specs.Limits.{rows, places, postingLimit, stripes, partitions, activeLimit}
 use Rattle.records.specs.Relations.{rows-posted}
-use Rattle.rules.specs.Lists.{memb, keep}
+use Rattle.rules.specs.Lists.{memb, keep, pad}
 use Rattle.rules.specs.Types.{Store}
 use Rattle.rules.specs.Store.{posting}
 use Rattle.rules.specs.Chains.{on}
@@ -28,7 +28,7 @@ use Rattle.statements.specs.StoreWords.{Packed}
 use Rattle.statements.specs.CallWords.{Unfinished, Reached, head, along, IsHead, HeadPosting, Repaired}
 use Rattle.admitted_laws.specs.Repairable.{Mends, mends}
 use Rattle.recovery_laws.specs.ArraysKept.{keep-on, keep-off, blanks, clear-length, clear-other, clear-here}
-use Rattle.recovery_laws.specs.Recovering as R
+use Rattle.recovery_laws.specs.Recovering.{hs, N, seen, heads-long, chains, chained, sized, found-same}
 
 -- '"Unfinished" means active or doomed', as the definition's test says it
 pub unfinished-says : (S : Store) (t : ℕ) → (finished (S .active) (S .doomed) t ≡ false) ↔ Unfinished S t
@@ -103,3 +103,122 @@ module _ (key : List ℕ) (has : List Bool) where
       (λ k. rw (k, mem-into (posting (getD key h 0) r) (headPostings key has (suc r) hs) c)
       (or-right (eqb c (posting (getD key h 0) r)) (memb c (headPostings key has (suc r) hs)) m))
       (λ k. rw k m)
+
+module _ (S : Store) (L : ℕ → List ℕ) (z : Sized S) (M : Mends S L) where
+  abbrev fin : ℕ → Bool
+  fin = finished (S .active) (S .doomed)
+
+  -- heads and marks once unfinished first versions are gone
+  abbrev heads : List ℕ
+  heads = hs S L z M
+
+  abbrev marks : List ℕ
+  marks = seen S L z M
+
+  long : length heads ≡ rows
+  long = heads-long S L z M ∙ z .heads
+
+  -- the marks are what is reached
+  reached-on : (p : ℕ) → Reached heads (S .next) p → on marks p ≡ true
+  reached-on _ (head r lt n) =
+      chained S L z M .marked r (getD heads r 0) lt (chain-head (S .next) (getD heads r 0) (N S L z M r) (chains S L z M .chain r lt) n)
+  reached-on _ (along p q n) =
+      let g = chained S L z M .found p (reached-on p q) in
+      chained S L z M .marked (g .0) (getD (S .next) p 0) (g .1)
+      (chain-next (S .next) (getD heads (g .0) 0) (N S L z M (g .0)) p (chains S L z M .chain (g .0) (g .1)) (g .2) n)
+
+  on-reached : (p : ℕ) → on marks p ≡ true → Reached heads (S .next) p
+  on-reached p e =
+      let g = chained S L z M .found p e in
+      chain-reached heads (S .next) (getD heads (g .0) 0) (N S L z M (g .0)) p (chains S L z M .chain (g .0) (g .1)) (λ n. head (g .0) (g .1) n) (g .2)
+
+  off : (p : ℕ) → (Reached heads (S .next) p → ⊥) → on marks p ≡ false
+  off p n = by (on marks p) (λ e. absurd (n (on-reached p e))) (λ e. e)
+
+  -- heads
+  at : (r : ℕ) → getD heads r 0 ≡ trimHead fin (S .xmin) (S .next) (getD (S .heads) r 0)
+  at r = List·getD-map (trimHead fin (S .xmin) (S .next)) (S .heads) r 0
+
+  gone : (r : ℕ) → getD (S .heads) r 0 ≢ 0 → fin (getD (S .xmin) (getD (S .heads) r 0) 0) ≡ false → getD heads r 0 ≡ getD (S .next) (getD (S .heads) r 0) 0
+  gone r n e = at r ∙ rw (ne-eqb (getD (S .heads) r 0) 0 n, e)
+
+  same-head : (r : ℕ) → fin (getD (S .xmin) (getD (S .heads) r 0) 0) ≡ true → getD heads r 0 ≡ getD (S .heads) r 0
+  same-head r e = at r ∙ by (eqb (getD (S .heads) r 0) 0)
+      (λ k. rw k (sym (eqb-true (getD (S .heads) r 0) 0 k)))
+      (λ k. rw (k, e))
+
+  -- a head of a row is among the heads, and back
+  is-head : (p r : ℕ) → r < rows → getD heads r 0 ≡ p → memb p heads ≡ true
+  is-head p r lt e = rw e at (at-mem heads r (omega (arith, long)))
+
+  below : (p : ℕ) → on marks p ≡ true → p < length (S .xmax)
+  below p e =
+      let g = chained S L z M .found p e in
+      omega (arith, chain-below (S .next) (getD heads (g .0) 0) (N S L z M (g .0)) p (chains S L z M .chain (g .0) (g .1)) (g .2) .1, z .next, z .xmax)
+
+  -- an xmax that is no head's, or finished, stays
+  xmax-same : (p : ℕ) → (((r : ℕ) × (r < rows) × (getD heads r 0 ≡ p)) → Unfinished S (getD (S .xmax) p 0) → ⊥)
+      → getD (clear fin heads (S .xmax)) p 0 ≡ getD (S .xmax) p 0
+  xmax-same p n = by (memb p heads)
+      (λ m. let k = mem-at heads p m in
+      clear-kept fin heads (S .xmax) p (finished-says S (getD (S .xmax) p 0) (n (k .0, omega (arith, k .1, long), k .2))))
+      (λ m. clear-other fin heads (S .xmax) p m)
+
+  -- the postings, packed
+  abbrev key′ : List ℕ
+  key′ = keep 0 marks (S .key)
+
+  abbrev has′ : List Bool
+  has′ = keep false marks (S .has)
+
+  found-packed : (In : ℕ → Type 0) → ((c : ℕ) → In c ↔ At key′ has′ 0 heads c)
+      → Packed (pad postingLimit 0 (headPostings (S .key) (S .has) 0 heads)) (length (headPostings (S .key) (S .has) 0 heads)) In
+  found-packed In h =
+      let l = headPostings (S .key) (S .has) 0 heads in
+      packed-of postingLimit 0 l In (omega (arith, heads-length (S .key) (S .has) 0 heads, long, rows-posted)) (heads-rising (S .key) (S .has) 0 heads) (λ c. (
+        λ i. rw (found-same S L z M) at (at-posted key′ has′ 0 heads c (h c .0 i)),
+        λ m. h c .1 (posted-at key′ has′ 0 heads c (rw (found-same S L z M) m)),
+      ))
+
+  repairs : Repaired S (recovered S)
+  unfolding recovered
+  repairs = record {
+    sized = sized S L z M;
+    removed = λ r lt n u. gone r n (unfinished-says S _ .1 u);
+    stays = λ r lt n. same-head r (finished-says S _ n);
+    xmin = λ p q. keep-on 0 marks (S .xmin) p (reached-on p q);
+    next = λ p q. keep-on 0 marks (S .next) p (reached-on p q);
+    key = λ p q. keep-on 0 marks (S .key) p (reached-on p q);
+    has = λ p q. keep-on false marks (S .has) p (reached-on p q);
+    cleared = λ p q h u.
+        keep-on 0 marks (clear fin heads (S .xmax)) p (reached-on p q)
+        ∙ clear-here fin heads (S .xmax) p (is-head p (h .0) (h .1) (h .2)) (below p (reached-on p q)) (inr (unfinished-says S _ .1 u));
+    marked = λ p q n. keep-on 0 marks (clear fin heads (S .xmax)) p (reached-on p q) ∙ xmax-same p n;
+    freed = λ p n. let o = off p n in record {
+      xmin = keep-off 0 marks (S .xmin) p o;
+      xmax = keep-off 0 marks (clear fin heads (S .xmax)) p o;
+      next = keep-off 0 marks (S .next) p o;
+      key = keep-off 0 marks (S .key) p o;
+      has = keep-off false marks (S .has) p o;
+      locked = blanks false places p;
+      owner = blanks 0 places p;
+    };
+    postings = found-packed (HeadPosting (recovered S)) (λ c. (
+      λ h. (h .0, omega (arith, h .1, long), h .2, omega (arith, h .3)),
+      λ h. (h .0, omega (arith, h .1, long), h .2, omega (arith, h .3)),
+    ));
+    «stripe_guards» = (length-replicate {A = ℕ} stripes 0, blanks 0 stripes);
+    «partition_guards» = (length-replicate {A = ℕ} partitions 0, blanks 0 partitions);
+    unlocked = blanks false places;
+    unowned = blanks 0 places;
+    active = (length-replicate {A = ℕ} activeLimit 0, blanks 0 activeLimit);
+    healthy = refl;
+    undoomed = refl;
+    clock = refl;
+    stamps = refl;
+    bound = refl;
+  }
+
+-- "Recovery takes any repairable store: it removes an unfinished first version, .."
+pub recovery-repairs : (S : Store) → Sized S → repairable S ≡ true → Repaired S (recovered S)
+recovery-repairs S z h = let M = mends S z h in repairs S (M .0) z (M .1)
