@@ -1,29 +1,35 @@
 -- "Store and transaction"; "A store is one guard, posting, xmax, head, slot, active-list, stamp or poison change."
 use mathlib.Core.Path.{_≡_, refl, sym, ap, _∙_}
 use mathlib.Core.Bool.{Bool, true, false, not, cond, _&&_, _||_}
-use mathlib.Core.List.{List, [], _∷_, _++_}
+use mathlib.Core.List.{List, [], _∷_, _++_, map}
 use mathlib.Core.Logic.{_≢_, _⊎_, inl, inr, ⊎-elim, _↔_}
 use Prim.Native.Nat.{ℕ, zero, suc, _+_, _*_, _/_, _%_, _-_, _≤_, _<_}
 use native.Mathlib.Omega.{arith}
-use lib.ListN.{length, getD, set, take, drop, length-set, length-drop, length-append}
-use lib.Seq.{getD-set-same, getD-set-other, getD-drop, length-take-le}
+use lib.ListN.{length, getD, set, take, drop, replicate, length-set, length-drop, length-append, length-replicate}
+use lib.Seq.{getD-set-same, getD-set-other, getD-take, getD-drop, length-take-le}
 use lib.Dec.{eqb, ltb, leb}
-use borrow.Author.Tests.{eqb-true, eqb-false, eq-eqb, ne-eqb, ltb-true, lt-ltb, le-ltb, not-true}
-use Rattle.records.specs.Limits.{rows, postingLimit, stripes, partitions, activeLimit}
+use borrow.Author.Tests.{eqb-true, eqb-false, eq-eqb, ne-eqb, ltb-true, ltb-false, lt-ltb, le-ltb, le-leb, not-true}
+use Rattle.records.specs.Limits.{rows, places, postingLimit, stripes, partitions, activeLimit}
+use Rattle.records.specs.Setters.{relisted}
+use Rattle.records.specs.Zero.{emptyStore, fresh}
 use Rattle.records.specs.Relations.{rows-some, stripes-some}
-use Rattle.rules.specs.Lists.{memb, rising, into, without, pad, firstZero}
-use Rattle.rules.specs.Types.{Store, Write, Value, Absent, Key}
-use Rattle.rules.specs.Store.{postingsOf, activeTxids, posting, keyOf, rowOf, stripeOf, partitionOf}
-use Rattle.rules.specs.Calls.{lowestFree}
+use Rattle.rules.specs.Lists.{those, memb, rising, into, without, pad, nonzeroFrom, firstZero}
+use Rattle.rules.specs.Types.{Store, Tx, Value, Absent, Key}
+use Rattle.rules.specs.Store.{used, usedSlots, postingsOf, activeTxids, posting, keyOf, rowOf, stripeOf, partitionOf}
+use Rattle.rules.specs.Transaction.{writesOf, readsOf, indexReadsOf, snapshotOf, savepointsOf}
+use Rattle.rules.specs.Numbers.{numberOf}
+use Rattle.rules.specs.Calls.{begin, lowestFree}
+use Rattle.rules.specs.Computing.{computing}
 use Rattle.rules.specs.Puts.{Put, apply, applyAll, takeSlot, posts, enters, kStripe, kPartition, kInsert, kRemove}
 use Rattle.rules.specs.Puts.{kXmax, kHead, kFree, kDrop, kStamp, kPoison, kDoom, kEnter, kClock, kXmin, kNext, kKey, kLock}
 use Rattle.basic_laws.specs.Cases.{by, clash, or-true, or-false, or-left, or-right, and-true, and-both, mem-here, mem-there}
-use Rattle.basic_laws.specs.Rising.{mem-into, rising-into, into-length, mem-without, rising-without, without-length}
+use Rattle.basic_laws.specs.Members.{at-mem, mem-at, mem-nonzero}
+use Rattle.basic_laws.specs.Rising.{rising-less, rising-from, mem-into, rising-into, into-length, mem-without, rising-without, without-length}
 use Rattle.basic_laws.specs.LaidOut.{pad-length}
-use Rattle.basic_laws.specs.Placed.{getD-any, packed-of, packed-rising, packed-members, before-first}
+use Rattle.basic_laws.specs.Placed.{getD-any, rising-at, at-rising, packed-of, packed-rising, packed-members, before-first}
 use Rattle.statements.specs.StoreWords.{Sets, Packed, Blank, storedKey, isPresent, Part, Heads, Xmin, Xmax, Next, Values, RowLocks, Postings, StripeGuards}
 use Rattle.statements.specs.StoreWords.{PartitionGuards, Stamps, Active, Clock, Poisoned, Doomed, Bound, Kept, changedBy, StoreKinds, Taken}
-use Rattle.statements.specs.StoreWords.{PaperNumbers, Remainder, Lowest}
+use Rattle.statements.specs.StoreWords.{PaperNumbers, EmptyStore, PostingPair, Remainder, FirstPlaces, BeforeZero, RisingOf, Lowest}
 
 -- one place set
 module _ {A : Type 0} where
@@ -296,3 +302,202 @@ none-free xmin e p pos lt =
     none k (x ∷ l) e i lt = by (eqb x 0)
         (λ q. absurd (let h : suc k ≡ 0 = rw q at e in omega (arith, h)))
         (λ q. up x l (length l) (omega (arith, eqb-false x 0 q)) (λ j lj. none (suc k) l (rw q at e) j lj) i lt)
+
+-- THE PAPER'S NUMBERS
+
+-- "64 row ids (0 to 63)", "256 slots, 1 to 256", ..
+pub paper-numbers : PaperNumbers
+paper-numbers = record {
+  rowIds = refl;
+  lastSlot = refl;
+  slotPlaces = refl;
+  postings = refl;
+  stripesAre = refl;
+  partitionsAre = refl;
+  actives = refl;
+  writes = refl;
+  reads = refl;
+  indexReads = refl;
+  savepoints = refl;
+  steps = refl;
+  keys = refl;
+  largest = refl;
+  placesOfReplay = refl;
+}
+
+-- the kinds of stores are different numbers
+pub kinds-differ : rising 1 (kStripe ∷ kPartition ∷ kInsert ∷ kRemove ∷ kXmax ∷ kHead ∷ kFree ∷ kDrop ∷ kStamp ∷ kPoison ∷ kDoom ∷ kEnter ∷ kClock
+    ∷ kXmin ∷ kNext ∷ kKey ∷ kLock ∷ []) ≡ true
+kinds-differ = refl
+
+-- "Key k has stripe k mod 16; row id r has partition r mod 16."
+pub stripe-says : (k : ℕ) → Remainder k stripes (stripeOf k)
+stripe-says k = record { below = omega (arith, stripes-some); times = k / stripes; whole = omega arith }
+
+pub partition-says : (r : ℕ) → Remainder r partitions (partitionOf r)
+partition-says r = record { below = omega arith; times = r / partitions; whole = omega arith }
+
+pub stripes-told : map stripeOf (0 ∷ 15 ∷ 16 ∷ 35 ∷ 51 ∷ 4294967295 ∷ []) ≡ 0 ∷ 15 ∷ 0 ∷ 3 ∷ 3 ∷ 15 ∷ []
+stripes-told = refl
+
+pub partitions-told : map partitionOf (0 ∷ 15 ∷ 16 ∷ 35 ∷ 63 ∷ []) ≡ 0 ∷ 15 ∷ 0 ∷ 3 ∷ 15 ∷ []
+partitions-told = refl
+
+-- "A posting is (key, row)", and every number is one
+pub posting-says : (k r : ℕ) → r < rows → PostingPair k r (posting k r)
+posting-says k r lt = record {
+  key = omega arith;
+  row = omega arith;
+  before = λ j q lq. (
+    λ h. by (ltb k j)
+        (λ e. inl (ltb-true k j e))
+        (λ e. inr (let ge = ltb-false k j e in (omega arith, omega arith))),
+    λ h. ⊎-elim (λ l. omega arith) (λ e. omega (arith, e .0, e .1)) h,
+  );
+}
+
+pub posting-back : (c : ℕ) → (posting (keyOf c) (rowOf c) ≡ c) × (rowOf c < rows)
+posting-back c = (omega arith, omega (arith, rows-some))
+
+-- THE EMPTY STORE
+
+blank-at : {A : Type 0} (n : ℕ) (z : A) (i : ℕ) → getD (replicate n z) i z ≡ z
+blank-at zero z i = refl
+blank-at (suc n) z zero = refl
+blank-at (suc n) z (suc i) = blank-at n z i
+
+pub empty-store : (durable : Bool) → EmptyStore durable (emptyStore durable)
+unfolding emptyStore
+empty-store durable = record {
+  sized = record {
+    heads = length-replicate {A = ℕ} rows 0;
+    xmin = length-replicate {A = ℕ} places 0;
+    xmax = length-replicate {A = ℕ} places 0;
+    next = length-replicate {A = ℕ} places 0;
+    key = length-replicate {A = ℕ} places 0;
+    has = length-replicate {A = Bool} places false;
+    locked = length-replicate {A = Bool} places false;
+    owner = length-replicate {A = ℕ} places 0;
+    postings = length-replicate {A = ℕ} postingLimit 0;
+    «stripe_guards» = length-replicate {A = ℕ} stripes 0;
+    «partition_guards» = length-replicate {A = ℕ} partitions 0;
+    stamps = length-replicate {A = ℕ} stripes 0;
+    active = length-replicate {A = ℕ} activeLimit 0;
+  };
+  heads = blank-at rows 0;
+  slots = λ p. record {
+    xmin = blank-at places 0 p;
+    xmax = blank-at places 0 p;
+    next = blank-at places 0 p;
+    key = blank-at places 0 p;
+    has = blank-at places false p;
+    locked = blank-at places false p;
+    owner = blank-at places 0 p;
+  };
+  «posting_count» = refl;
+  postings = blank-at postingLimit 0;
+  «stripe_guards» = blank-at stripes 0;
+  «partition_guards» = blank-at partitions 0;
+  stamps = blank-at stripes 0;
+  active = blank-at activeLimit 0;
+  clock = refl;
+  poisoned = refl;
+  doomed = refl;
+  bound = refl;
+}
+
+-- THE CLOCK'S END
+
+-- "begin: clock at its largest": at one below it begin takes a txid, at it the answer is 22
+abbrev late : ℕ → Store
+late t = relisted (replicate activeLimit 0) t fresh
+
+pub clock-ends : map (λ t. numberOf (begin (late t) .refusal)) (1 ∷ 18446744073709551613 ∷ 18446744073709551614 ∷ 18446744073709551615 ∷ [])
+    ≡ 0 ∷ 0 ∷ 0 ∷ 22 ∷ []
+unfolding computing
+clock-ends = refl
+
+-- LISTS READ FROM ARRAYS
+
+-- a transaction's lists and the store's postings are the first places of their arrays, as many as the count says
+first-places : {A : Type 0} (n : ℕ) (a : List A) → n ≤ length a → FirstPlaces a n (take n a)
+first-places n a le = record { long = length-take-le n a le; same = λ d i lt. getD-take n a i d lt }
+
+pub writes-are : (x : Tx) → x .«write_count» ≤ length (x .writes) → FirstPlaces (x .writes) (x .«write_count») (writesOf x)
+writes-are x le = first-places (x .«write_count») (x .writes) le
+
+pub reads-are : (x : Tx) → x .«read_count» ≤ length (x .reads) → FirstPlaces (x .reads) (x .«read_count») (readsOf x)
+reads-are x le = first-places (x .«read_count») (x .reads) le
+
+pub index-reads-are : (x : Tx) → x .«index_read_count» ≤ length (x .«index_reads») → FirstPlaces (x .«index_reads») (x .«index_read_count») (indexReadsOf x)
+index-reads-are x le = first-places (x .«index_read_count») (x .«index_reads») le
+
+pub snapshot-is : (x : Tx) → x .«snapshot_count» ≤ length (x .snapshot) → FirstPlaces (x .snapshot) (x .«snapshot_count») (snapshotOf x)
+snapshot-is x le = first-places (x .«snapshot_count») (x .snapshot) le
+
+pub savepoints-are : (x : Tx) → x .«savepoint_count» ≤ length (x .savepoints) → FirstPlaces (x .savepoints) (x .«savepoint_count») (savepointsOf x)
+savepoints-are x le = first-places (x .«savepoint_count») (x .savepoints) le
+
+pub postings-are : (S : Store) → S .«posting_count» ≤ length (S .postings) → FirstPlaces (S .postings) (S .«posting_count») (postingsOf S)
+unfolding postingsOf
+postings-are S le = first-places (S .«posting_count») (S .postings) le
+
+-- "Active txids: .. zero after them": those before the first 0
+pub actives-are : (a : List ℕ) → BeforeZero a (activeTxids a)
+actives-are [] = record { within = omega arith; same = λ i lt. refl; some = λ i lt. absurd (omega arith); ends = refl }
+actives-are (x ∷ a) = by (eqb x 0)
+    (λ e. rw e (record { within = omega arith; same = λ i lt. absurd (omega arith); some = λ i lt. absurd (omega arith); ends = eqb-true x 0 e }))
+    (λ e. let h = actives-are a in rw e (record {
+      within = omega (arith, h .within);
+      same = λ i lt. same x (activeTxids a) a (h .same) i lt;
+      some = λ i lt. some x (activeTxids a) a (eqb-false x 0 e) (h .some) i lt;
+      ends = h .ends;
+    }))
+  where
+    same : (x : ℕ) (l a : List ℕ) → ((i : ℕ) → i < length l → getD l i 0 ≡ getD a i 0) → (i : ℕ) → i < suc (length l) → getD (x ∷ l) i 0 ≡ getD (x ∷ a) i 0
+    same x l a h zero lt = refl
+    same x l a h (suc i) lt = h i (omega arith)
+
+    some : (x : ℕ) (l a : List ℕ) → x ≢ 0 → ((i : ℕ) → i < length l → getD a i 0 ≢ 0) → (i : ℕ) → i < suc (length l) → getD (x ∷ a) i 0 ≢ 0
+    some x l a n h zero lt = n
+    some x l a n h (suc i) lt = h i (omega arith)
+
+-- "A used slot has xmin, ..": used where its xmin isn't 0; the used slots, rising
+pub used-says : (xmin : List ℕ) (p : ℕ) → (used xmin p ≡ true) ↔ (getD xmin p 0 ≢ 0)
+used-says xmin p = (
+  λ h e. omega (arith, e, ltb-true 0 (getD xmin p 0) h),
+  λ n. by (eqb (getD xmin p 0) 0) (λ e. absurd (n (eqb-true (getD xmin p 0) 0 e)))
+      (λ e. lt-ltb 0 (getD xmin p 0) (omega (arith, eqb-false (getD xmin p 0) 0 e))),
+)
+
+-- the places of the nonzero numbers rise
+nonzero-rises : (k : ℕ) (l : List ℕ) → rising k (nonzeroFrom k l) ≡ true
+nonzero-rises k [] = refl
+nonzero-rises k (x ∷ l) = let r = nonzero-rises (suc k) l in by (eqb x 0)
+    (λ e. rw e (rising-less k (suc k) (nonzeroFrom (suc k) l) (omega arith) r))
+    (λ e. rw e (and-both (leb k k) (rising (suc k) (nonzeroFrom (suc k) l)) (le-leb k k (omega arith)) r))
+
+pub used-slots-are : (xmin : List ℕ) → RisingOf (usedSlots xmin) (λ p. getD xmin p 0 ≢ 0)
+used-slots-are xmin = record {
+  rising = rising-at 0 (usedSlots xmin) (nonzero-rises 0 xmin);
+  exactly = λ p. (
+    λ n. mem-at (usedSlots xmin) p (mem-nonzero xmin p ∙ used-says xmin p .1 n),
+    λ k. used-says xmin p .0 (sym (mem-nonzero xmin p) ∙ (rw (k .2) at (at-mem (usedSlots xmin) (k .0) (k .1)))),
+  );
+}
+
+-- "rising", as the test says it
+pub rising-says : (lo : ℕ) (l : List ℕ) → (rising lo l ≡ true)
+    ↔ (((i : ℕ) → i < length l → lo ≤ getD l i 0) × ((i j : ℕ) → i < j → j < length l → getD l i 0 < getD l j 0))
+rising-says lo l = (
+  λ h. (λ i lt. rising-from lo l (getD l i 0) h (at-mem l i lt), rising-at lo l h),
+  λ h. at-rising lo l (h .0) (h .1),
+)
+
+-- "in list order": those of a list that pass, one after the other as they stand
+pub those-say : {A : Type 0} (f : A → Bool) (l m : List A) → those f (l ++ m) ≡ those f l ++ those f m
+those-say f [] m = refl
+those-say {A} f (x ∷ l) m = let r = those-say f l m in by (f x) (λ e. rw e (ap (λ (t : List A). x ∷ t) r)) (λ e. rw e r)
+
+pub those-one : {A : Type 0} (f : A → Bool) (x : A) → (f x ≡ true → those f (x ∷ []) ≡ x ∷ []) × (f x ≡ false → those f (x ∷ []) ≡ [])
+those-one f x = (λ e. rw e, λ e. rw e)

@@ -9,9 +9,11 @@ use Rattle.records.specs.Limits.{rows, slots, places, postingLimit, stripes, pa
 use Rattle.records.specs.Limits.{savepointLimit, stepCount, keyEnd, clockEnd, placeLimit}
 use Rattle.rules.specs.Lists.{memb}
 use Rattle.rules.specs.Types.{Store, Value, Absent, Key}
+use Rattle.rules.specs.Store.{posting, keyOf, rowOf}
 use Rattle.rules.specs.Puts.{Put, apply, kStripe, kPartition, kInsert, kRemove, kXmax, kHead, kFree, kDrop, kStamp, kPoison, kDoom}
 use Rattle.rules.specs.Puts.{kEnter, kClock, kXmin, kNext, kKey, kLock, putStripe, putPartition, putInsert, putRemove, putXmax, putHead, putFree}
 use Rattle.rules.specs.Puts.{putDrop, putStamp, putPoison, putDoom, putEnter, putClock, putXmin, putNext, putKey, putLock}
+use Rattle.statements.specs.Sized.{Sized}
 
 -- ARRAYS
 
@@ -183,6 +185,28 @@ pub record PaperNumbers : Type 0 where
   pub keys : keyEnd ≡ 2 ^ 32
   pub largest : suc clockEnd ≡ 2 ^ 64
   pub placesOfReplay : placeLimit ≡ 16
+
+-- the empty store, durably bound or not: no row has a version, every slot is free, no posting, guard, stamp or active txid; "A 64-bit clock from 1"
+pub record EmptyStore (durable : Bool) (S : Store) : Type 0 where
+  pub sized : Sized S
+  pub heads : (r : ℕ) → getD (S .heads) r 0 ≡ 0
+  pub slots : (p : ℕ) → Blank S p
+  pub «posting_count» : S .«posting_count» ≡ 0
+  pub postings : (i : ℕ) → getD (S .postings) i 0 ≡ 0
+  pub «stripe_guards» : (i : ℕ) → getD (S .«stripe_guards») i 0 ≡ 0
+  pub «partition_guards» : (i : ℕ) → getD (S .«partition_guards») i 0 ≡ 0
+  pub stamps : (i : ℕ) → getD (S .stamps) i 0 ≡ 0
+  pub active : (i : ℕ) → getD (S .active) i 0 ≡ 0
+  pub clock : S .clock ≡ 1
+  pub poisoned : S .poisoned ≡ false
+  pub doomed : S .doomed ≡ 0
+  pub bound : S .bound ≡ durable
+
+-- "A posting is (key, row)": one number c for key k and row r, which tells both, and the numbers' order is by key and then by row
+pub record PostingPair (k r c : ℕ) : Type 0 where
+  pub key : keyOf c ≡ k
+  pub row : rowOf c ≡ r
+  pub before : (j q : ℕ) → q < rows → (c < posting j q) ↔ ((k < j) ⊎ ((k ≡ j) × (r < q)))
 
 -- k mod m is i
 pub record Remainder (k m i : ℕ) : Type 0 where
