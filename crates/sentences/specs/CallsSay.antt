@@ -140,14 +140,18 @@ unfolding recordOf
 record-zero why x n = rw (ne-eqb (numberOf why) 0 n) zero-record
 
 -- 0: it names the transaction and its final writes
-pub record-names : (x : Tx) → length (finals x) ≤ writeLimit → Names (x .txid .0) (finals x) (recordOf Done x)
-unfolding recordOf
-record-names x le = record {
+pub names-finals : (x : Tx) → length (finals x) ≤ writeLimit
+    → Names (x .txid .0) (finals x) (record { txid = x .txid; writes = pad writeLimit noWrite (finals x); count = length (finals x) })
+names-finals x le = record {
   txid = refl;
   count = refl;
   writes = λ d i lt. pad-here writeLimit noWrite (finals x) d i lt le;
   behind = zero-behind noWrite ZeroWrite zero-write writeLimit (finals x);
 }
+
+pub record-names : (x : Tx) → length (finals x) ≤ writeLimit → Names (x .txid .0) (finals x) (recordOf Done x)
+unfolding recordOf
+record-names x le = names-finals x le
 
 -- "zero on 1, 2, 3 and 18"
 pub no-flag : NoFlag noEvents
