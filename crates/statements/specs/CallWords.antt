@@ -113,6 +113,14 @@ pub record OneWriteMore (x y : Tx) (r q p : ℕ) : Type 0 where
   pub savepoints : SameSavepoints x y
   pub «index_conflict» : y .«index_conflict» ≡ x .«index_conflict»
 
+-- what a commit with number n leaves of the transaction x: y. 0, 16, 17 "lists emptied"; 13 "open"; 14 "writes, reads, index reads emptied"; 15 "writes
+-- alone emptied" (what an abort leaves is demand 2's; 18 leaves a zero one and the other numbers leave it as it was, as the table of numbers says)
+pub record TxAfter (n : ℕ) (x y : Tx) : Type 0 where
+  pub emptied : (n ≡ 0) ⊎ ((n ≡ 16) ⊎ (n ≡ 17)) → ListsEmptied x y
+  pub unchanged : n ≡ 13 → y ≡ x
+  pub accesses : n ≡ 14 → AccessesEmptied x y
+  pub writes : n ≡ 15 → WritesEmptied x y
+
 -- "The record is zero unless 0"
 pub record ZeroRecord (r : Record) : Type 0 where
   pub txid : r .txid .0 ≡ 0
