@@ -59,7 +59,8 @@ at-rising lo (x ∷ l) low h = and-both (leb lo x) (rising (suc x) l) (le-leb lo
     (at-rising (suc x) l (λ i lt. h 0 (suc i) (omega arith) (omega arith)) (λ i j lt le. h (suc i) (suc j) (omega arith) (omega arith)))
 
 -- a rising list laid out is packed
-pub packed-of : (n lo : ℕ) (l : List ℕ) (In : ℕ → Type 0) → length l ≤ n → rising lo l ≡ true → ((c : ℕ) → In c ↔ (memb c l ≡ true)) → Packed (pad n 0 l) (length l) In
+pub packed-of : (n lo : ℕ) (l : List ℕ) (In : ℕ → Type 0) → length l ≤ n → rising lo l ≡ true → ((c : ℕ) → In c ↔ (memb c l ≡ true))
+    → Packed (pad n 0 l) (length l) In
 packed-of n lo l In le h same = record {
   within = omega (arith, pad-length n 0 l);
   rising = λ i j lt lj. rw (pad-here n 0 l 0 i (omega arith) le, pad-here n 0 l 0 j lj le) (rising-at lo l h i j lt lj);

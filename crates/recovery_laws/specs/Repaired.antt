@@ -12,11 +12,11 @@ use borrow.Author.Tests.{eqb-true, eqb-false, eq-eqb, ne-eqb}
 use Rattle.records.specs.Limits.{rows, places, postingLimit, stripes, partitions, activeLimit}
 use Rattle.records.specs.Relations.{rows-posted}
 use Rattle.rules.specs.Lists.{memb, keep, pad}
-use Rattle.rules.specs.Types.{Store}
+use Rattle.rules.specs.Types.{Store, Done, NotRepairable, Open}
 use Rattle.rules.specs.Store.{posting}
 use Rattle.rules.specs.Chains.{on}
 use Rattle.rules.specs.Admitted.{finished, headPostings, repairable}
-use Rattle.rules.specs.Recovery.{trimHead, clear, recovered}
+use Rattle.rules.specs.Recovery.{trimHead, clear, recovered, recover}
 use Rattle.basic_laws.specs.Cases.{by, clash, or-true, or-left, or-right, mem-here, mem-there}
 use Rattle.basic_laws.specs.Members.{at-mem, mem-at}
 use Rattle.basic_laws.specs.Rising.{mem-into}
@@ -36,9 +36,12 @@ unfolding finished
 unfinished-says S t = (
   λ n. by (eqb t 0)
       (λ e. clash {b = true} refl (rw e at n))
-      (λ e. (eqb-false t 0 e, by (memb t (S .active))
-      (λ m. inl m)
-      (λ m. by (eqb t (S .doomed)) (λ d. inr (eqb-true t (S .doomed) d)) (λ d. clash {b = true} refl (rw (e, m, d) at n))))),
+      (λ e. (
+        eqb-false t 0 e,
+        by (memb t (S .active))
+            (λ m. inl m)
+            (λ m. by (eqb t (S .doomed)) (λ d. inr (eqb-true t (S .doomed) d)) (λ d. clash {b = true} refl (rw (e, m, d) at n))),
+      )),
   λ u. rw (ne-eqb t 0 (u .0)) (⊎-elim (λ m. rw m) (λ d. rw (eq-eqb t (S .doomed) d) (no (memb t (S .active)))) (u .1)),
 )
   where
@@ -222,3 +225,10 @@ module _ (S : Store) (L : ℕ → List ℕ) (z : Sized S) (M : Mends S L) where
 -- "Recovery takes any repairable store: it removes an unfinished first version, .."
 pub recovery-repairs : (S : Store) → Sized S → repairable S ≡ true → Repaired S (recovered S)
 recovery-repairs S z h = let M = mends S z h in repairs S (M .0) z (M .1)
+
+-- the call: 20 where the store is not repairable, which then is as it was
+pub recover-says : (S : Store) → Sized S
+    → (repairable S ≡ true → (recover S .refusal ≡ Done) × Repaired S (recover S .store))
+    × (repairable S ≡ false → (recover S .refusal ≡ NotRepairable Open) × (recover S .store ≡ S))
+unfolding recover
+recover-says S z = (λ e. rw e (refl, recovery-repairs S z e), λ e. rw e (refl, refl))
