@@ -31,7 +31,7 @@ use Rattle.admitted_laws.specs.Resting.{Rests, rests, rested}
 use Rattle.call_laws.specs.Refusals.{write-accepted}
 use Rattle.call_laws.specs.Passed.{write-passed}
 use Rattle.basic_laws.specs.Blanks.{all-both, all-more, all-mid, drop-pad}
-use Rattle.statements.specs.ReadWords.{VisibleAt, FirstIn, NoneIn, LastOf, ofRow}
+use Rattle.statements.specs.ReadWords.{ofRow}
 use Rattle.call_laws.specs.ReadLaws.{visibleAt, mem-mid, first-of, none-of, first-none, last-of, last-none, writes-taken}
 use Rattle.call_laws.specs.Counts.{SizedTx, blankWrite, counts-parts, parts-counts}
 use Rattle.call_laws.specs.Keeps.{Keeps}

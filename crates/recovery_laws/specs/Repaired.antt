@@ -1,9 +1,9 @@
 -- Recovery in words, row by row and slot by slot: what it removes, clears and frees, and that everything else stays.
-use mathlib.Core.Path.{_≡_, refl, sym, ap, _∙_}
-use mathlib.Core.Bool.{Bool, true, false, not, cond, _&&_, _||_}
-use mathlib.Core.List.{List, [], _∷_, map}
+use mathlib.Core.Path.{_≡_, refl, sym, _∙_}
+use mathlib.Core.Bool.{Bool, true, false, not, _&&_}
+use mathlib.Core.List.{List, [], _∷_}
 use mathlib.Core.Logic.{_≢_, _⊎_, inl, inr, ⊎-elim, _↔_}
-use Prim.Native.Nat.{ℕ, zero, suc, _+_, _≤_, _<_}
+use Prim.Native.Nat.{ℕ, zero, suc, _+_, _<_}
 use native.Mathlib.Omega.{arith}
 use lib.ListN.{length, getD, set, length-replicate, List·getD-map}
 use lib.Seq.{getD-set-other}
@@ -17,7 +17,7 @@ use Rattle.rules.specs.Store.{posting}
 use Rattle.rules.specs.Chains.{on}
 use Rattle.rules.specs.Admitted.{finished, headPostings, repairable}
 use Rattle.rules.specs.Recovery.{trimHead, clear, recovered, recover}
-use Rattle.basic_laws.specs.Cases.{by, clash, or-true, or-left, or-right, mem-here, mem-there}
+use Rattle.basic_laws.specs.Cases.{by, clash, or-true, or-right, mem-there}
 use Rattle.basic_laws.specs.Members.{at-mem, mem-at}
 use Rattle.basic_laws.specs.Rising.{mem-into}
 use Rattle.basic_laws.specs.HeadPostings.{heads-rising, heads-length}
@@ -25,9 +25,9 @@ use Rattle.basic_laws.specs.Chain.{IsChain, chain-head, chain-below}
 use Rattle.basic_laws.specs.Placed.{packed-of}
 use Rattle.statements.specs.Sized.{Sized}
 use Rattle.statements.specs.StoreWords.{Packed}
-use Rattle.statements.specs.CallWords.{Unfinished, Reached, head, along, IsHead, HeadPosting, Repaired}
+use Rattle.statements.specs.CallWords.{Unfinished, Reached, head, along, HeadPosting, Repaired}
 use Rattle.admitted_laws.specs.Repairable.{Mends, mends}
-use Rattle.recovery_laws.specs.ArraysKept.{keep-on, keep-off, blanks, clear-length, clear-other, clear-here}
+use Rattle.recovery_laws.specs.ArraysKept.{keep-on, keep-off, blanks, clear-other, clear-here}
 use Rattle.recovery_laws.specs.Recovering.{hs, N, seen, heads-long, chains, chained, sized, found-same}
 
 -- '"Unfinished" means active or doomed', as the definition's test says it

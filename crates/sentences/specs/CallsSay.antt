@@ -1,13 +1,12 @@
 -- "Other calls": begin, write, row lock, abort and recovery; what is emptied and what is kept.
-use mathlib.Core.Path.{_≡_, refl, sym, ap, _∙_}
-use mathlib.Core.Bool.{Bool, true, false, cond}
+use mathlib.Core.Path.{_≡_, refl, ap, _∙_}
 use mathlib.Core.List.{List, [], _∷_, _++_}
 use mathlib.Core.Logic.{_≢_}
 use Prim.Native.Nat.{ℕ, suc, _≤_, _<_}
 use native.Mathlib.Omega.{arith}
-use lib.ListN.{length, getD, take, replicate, length-append, length-replicate, getD-replicate, List·getD-append}
+use lib.ListN.{length, getD, replicate, length-append, length-replicate, getD-replicate, List·getD-append}
 use lib.Seq.{getD-take, getD-append-seam, length-take-le}
-use Rattle.records.specs.Limits.{rows, activeLimit, writeLimit, readLimit, indexReadLimit, savepointLimit}
+use Rattle.records.specs.Limits.{activeLimit, writeLimit, readLimit, indexReadLimit, savepointLimit}
 use Rattle.records.specs.Zero.{noWrite, noRead, noIndexRead, onlyTxid, zeroTx}
 use Rattle.rules.specs.Lists.{pad}
 use Rattle.rules.specs.Types.{Tx, Write, Refusal, Done}
@@ -17,7 +16,7 @@ use Rattle.rules.specs.Answer.{eventsOf, noEvents, noRecord, recordOf}
 use borrow.Author.Tests.{ne-eqb}
 use Rattle.basic_laws.specs.LaidOut.{pad-length}
 use Rattle.basic_laws.specs.Placed.{pad-here, pad-behind}
-use Rattle.statements.specs.CallWords.{ZeroWrite, ZeroRead, ZeroIndexRead, Zero, ZeroFrom, Empty, SameSnapshot, SameReads, SameIndexReads, SameSavepoints}
+use Rattle.statements.specs.CallWords.{ZeroWrite, ZeroRead, ZeroIndexRead, Zero, ZeroFrom, Empty}
 use Rattle.statements.specs.CallWords.{ListsEmptied, AccessesEmptied, WritesEmptied, OnlyTxid, OneWriteMore, ZeroRecord, Names, NoFlag}
 
 -- behind a list that is laid out the places are zero entries, and an empty one has no others

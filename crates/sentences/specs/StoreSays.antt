@@ -1,20 +1,20 @@
 -- "Store and transaction"; "A store is one guard, posting, xmax, head, slot, active-list, stamp or poison change."
 use mathlib.Core.Path.{_≡_, refl, sym, ap, _∙_}
-use mathlib.Core.Bool.{Bool, true, false, not, cond, _&&_, _||_}
+use mathlib.Core.Bool.{Bool, true, false, not, _||_}
 use mathlib.Core.List.{List, [], _∷_, _++_, map}
 use mathlib.Core.Logic.{_≢_, _⊎_, inl, inr, ⊎-elim, _↔_}
-use Prim.Native.Nat.{ℕ, zero, suc, _+_, _*_, _/_, _%_, _-_, _≤_, _<_}
+use Prim.Native.Nat.{ℕ, zero, suc, _+_, _/_, _-_, _≤_, _<_}
 use native.Mathlib.Omega.{arith}
 use lib.ListN.{length, getD, set, take, drop, replicate, length-set, length-drop, length-append, length-replicate}
 use lib.Seq.{getD-set-same, getD-set-other, getD-take, getD-drop, length-take-le}
 use lib.Dec.{eqb, ltb, leb}
 use borrow.Author.Tests.{eqb-true, eqb-false, eq-eqb, ne-eqb, ltb-true, ltb-false, lt-ltb, le-ltb, le-leb, not-true}
-use Rattle.records.specs.Limits.{rows, places, postingLimit, stripes, partitions, activeLimit}
+use Rattle.records.specs.Limits.{rows, places, postingLimit, stripes, partitions, activeLimit, faultLimit}
 use Rattle.records.specs.Setters.{relisted}
-use Rattle.records.specs.Zero.{emptyStore, fresh}
+use Rattle.records.specs.Zero.{emptyStore, fresh, noFault, noFaults}
 use Rattle.records.specs.Relations.{rows-some, stripes-some}
 use Rattle.rules.specs.Lists.{those, memb, rising, into, without, pad, nonzeroFrom, firstZero}
-use Rattle.rules.specs.Types.{Store, Tx, Value, Absent, Key}
+use Rattle.rules.specs.Types.{Store, Tx, Fault, Value, Absent, Key}
 use Rattle.rules.specs.Store.{used, usedSlots, postingsOf, activeTxids, posting, keyOf, rowOf, stripeOf, partitionOf}
 use Rattle.rules.specs.Transaction.{writesOf, readsOf, indexReadsOf, snapshotOf, savepointsOf}
 use Rattle.rules.specs.Numbers.{numberOf}
@@ -405,6 +405,16 @@ empty-store durable = record {
   doomed = refl;
   bound = refl;
 }
+
+pub fresh-store : EmptyStore false fresh
+unfolding fresh
+fresh-store = empty-store false
+
+-- and the empty schedule: no fault, zero at every place
+pub no-faults : (noFaults .count ≡ 0) × (length (noFaults .faults) ≡ faultLimit)
+    × ((i : ℕ) → let f = getD (noFaults .faults) i noFault in (f .step ≡ 0) × (f .letter ≡ 0) × (f .k ≡ 0))
+unfolding noFaults
+no-faults = (refl, length-replicate {A = Fault} faultLimit noFault, λ i. rw (blank-at faultLimit noFault i) (refl, refl, refl))
 
 -- THE CLOCK'S END
 

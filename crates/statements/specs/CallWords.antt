@@ -1,14 +1,14 @@
 -- "Other calls" in words: begin, write, row lock, abort, recovery; what is emptied and what is kept.
 use mathlib.Core.Path.{_≡_}
-use mathlib.Core.Bool.{Bool, true, false, _||_}
+use mathlib.Core.Bool.{true, false, _||_}
 use mathlib.Core.List.{List, [], _∷_, _++_}
 use mathlib.Core.Logic.{_≢_, _⊎_}
 use Prim.Native.Nat.{ℕ, suc, _+_, _*_, _≤_, _<_}
 use lib.ListN.{length, getD, take}
 use lib.Dec.{eqb}
-use Rattle.records.specs.Limits.{rows, places, stripes, partitions, postingLimit, activeLimit, writeLimit, readLimit, indexReadLimit, savepointLimit}
+use Rattle.records.specs.Limits.{rows, stripes, partitions, activeLimit, writeLimit, readLimit, indexReadLimit, savepointLimit}
 use Rattle.rules.specs.Lists.{any, memb, without}
-use Rattle.rules.specs.Types.{Store, Tx, Write, ReadRecord, IndexRead, Value, Absent, Key, Record, Events, Reply, Seen, Written, Found, Mended}
+use Rattle.rules.specs.Types.{Store, Tx, Write, ReadRecord, IndexRead, Value, Absent, Record, Events, Reply, Seen, Written, Found}
 use Rattle.rules.specs.Store.{activeTxids}
 use Rattle.statements.specs.Sized.{Sized}
 use Rattle.statements.specs.StoreWords.{Packed, Blank, SameSlot, Part, Active, Clock, RowLocks, Kept, Lowest, Taken}
