@@ -1,7 +1,8 @@
 pub mod Demand1
+-- what a commit leaves of the transaction, by its number
+pub mod TxLeft
 pub mod Demand3
 pub mod Demand2
-pub mod TxLeft
 -- histories with faults and cuts, and what meets the premises
 pub mod Struck
 pub mod Exhibits
