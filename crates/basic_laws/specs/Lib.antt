@@ -9,6 +9,7 @@ pub mod Rising
 pub mod EachTwo
 pub mod Blanks
 pub mod Places
+pub mod Placed
 -- lists laid out in arrays
 pub mod LaidOut
 pub mod LaidOutActive

@@ -5,10 +5,10 @@ use mathlib.Core.List.{List, [], _∷_, map}
 use Prim.Native.Nat.{ℕ, _<_}
 use native.Mathlib.Omega.{arith}
 use lib.ListN.{length, getD}
+use Rattle.records.specs.Limits.{activeLimit}
 use Rattle.records.specs.Setters.{relisted}
-use Rattle.records.specs.Zero.{onlyTxid}
 use Rattle.rules.specs.Lists.{memb, without}
-use Rattle.rules.specs.Types.{Store, Tx, Reply}
+use Rattle.rules.specs.Types.{Store, Tx}
 use Rattle.rules.specs.Store.{activeTxids}
 use Rattle.rules.specs.Admitted.{resting}
 use Rattle.rules.specs.Numbers.{numberOf}
@@ -19,7 +19,6 @@ use Rattle.run_laws.specs.GuardPuts.{applyAll-append, set-all-else, set-all-her
 use Rattle.run_laws.specs.FreedSlots.{freed, freed-is}
 use Rattle.run_laws.specs.OwnSlots.{own-parts}
 use Rattle.statements.specs.Sized.{Sized}
-use Rattle.admitted_laws.specs.Repairable.{Off}
 use Rattle.recovery_laws.specs.Unfinished.{dropped, drop-other, dropped-are, dropped-gone, dropped-form}
 use Rattle.recovery_laws.specs.Carried.{listed-rest}
 use Rattle.recovery_laws.specs.OwnFreed.{frees-rest}
@@ -28,7 +27,11 @@ use Rattle.recovery_laws.specs.Sizes.{sized-all}
 use Rattle.admitted_laws.specs.Resting.{Rests, rests, rested}
 use Rattle.call_laws.specs.Refusals.{abort-accepted}
 use Rattle.call_laws.specs.Passed.{abort-passed}
-use Rattle.statements.specs.Words.{Blank}
+use Rattle.basic_laws.specs.LaidOut.{pad-length}
+use Rattle.basic_laws.specs.Placed.{getD-any}
+use Rattle.statements.specs.StoreWords.{Blank, SameSlot}
+use Rattle.statements.specs.CallWords.{Aborts}
+use Rattle.sentences.specs.CallsSay.{only-txid}
 
 -- the store with slots freed and another active list
 abbrev pub emptied : List ℕ → List ℕ → Store → Store
@@ -42,16 +45,6 @@ ownOf S t = ownSlots (S .heads) (S .next) (S .xmin) t
 pub aborted-is : (S : Store) (t : ℕ) → applyAll (abortPuts S t) S ≡ emptied (ownOf S t) (dropped (S .active) t) S
 unfolding abortPuts
 aborted-is S t = applyAll-append (map putFree (ownOf S t)) (putDrop t ∷ []) S ∙ rw (freed-is (ownOf S t) S)
-
--- and one that is as it was
-pub record SameSlot (S T : Store) (p : ℕ) : Type 0 where
-  pub xmin : getD (T .xmin) p 0 ≡ getD (S .xmin) p 0
-  pub xmax : getD (T .xmax) p 0 ≡ getD (S .xmax) p 0
-  pub next : getD (T .next) p 0 ≡ getD (S .next) p 0
-  pub key : getD (T .key) p 0 ≡ getD (S .key) p 0
-  pub has : getD (T .has) p false ≡ getD (S .has) p false
-  pub locked : getD (T .locked) p false ≡ getD (S .locked) p false
-  pub owner : getD (T .owner) p 0 ≡ getD (S .owner) p 0
 
 -- a freed slot is all zero, any other as it was
 pub wiped-all : (ps act : List ℕ) (S : Store) (p : ℕ) → memb p ps ≡ true → Blank (emptied ps act S) p
@@ -106,27 +99,7 @@ module _ (S : Store) (L : ℕ → List ℕ) (z : Sized S) (R : Rests S L) (t : �
             (λ n. clash (own-mine S L z R t a p o (sym (set-all-else 0 own (S .xmin) 0 p n) ∙ e)) n));
       }) Q
 
--- what an accepted abort leaves: the txid's off-chain slots are all zero, every other slot is as it was, the txid is gone from the active list and
--- the others stay in their order, nothing else of the store changes, and the transaction is zero but for its txid
-pub record Aborts (S : Store) (x : Tx) (L : ℕ → List ℕ) (a : Reply) : Type 0 where
-  pub freed : (p : ℕ) → getD (S .xmin) p 0 ≡ x .txid .0 → Off (S .heads) L p → Blank (a .store) p
-  pub others : (p : ℕ) → (getD (S .xmin) p 0 ≡ x .txid .0 → ⊥) → SameSlot S (a .store) p
-  pub chained : (r p : ℕ) → r < length (S .heads) → memb p (L r) ≡ true → SameSlot S (a .store) p
-  pub gone : memb (x .txid .0) (activeTxids (a .store .active)) ≡ false
-  pub listed : activeTxids (a .store .active) ≡ without (x .txid .0) (activeTxids (S .active))
-  pub heads : a .store .heads ≡ S .heads
-  pub postings : a .store .postings ≡ S .postings
-  pub «posting_count» : a .store .«posting_count» ≡ S .«posting_count»
-  pub «stripe_guards» : a .store .«stripe_guards» ≡ S .«stripe_guards»
-  pub «partition_guards» : a .store .«partition_guards» ≡ S .«partition_guards»
-  pub stamps : a .store .stamps ≡ S .stamps
-  pub clock : a .store .clock ≡ S .clock
-  pub poisoned : a .store .poisoned ≡ S .poisoned
-  pub doomed : a .store .doomed ≡ S .doomed
-  pub bound : a .store .bound ≡ S .bound
-  pub tx : a .tx ≡ onlyTxid (x .txid .0)
-
--- it does so
+-- an accepted abort does so
 pub abort-aborts : (S : Store) (x : Tx) (L : ℕ → List ℕ) → Sized S → Rests S L → numberOf (abort S x .refusal) ≡ 0 → Aborts S x L (abort S x)
 abort-aborts S x L z R h =
     let l = abort-passed S x h in
@@ -139,6 +112,11 @@ abort-aborts S x L z R h =
       chained = λ r p lt m. wiped-none o act S p (chain-out S L z R t (l .active) r p lt m);
       gone = dropped-gone (S .active) (S .clock) (R .mends .listed) (z .active) t;
       listed = dropped-are (S .active) (S .clock) (R .mends .listed) (z .active) t;
+      after = record {
+        long = pad-length {A = ℕ} activeLimit 0 (without t (activeTxids (S .active)));
+        zero = λ d i le lt. getD-any act i d 0 (omega (arith, pad-length {A = ℕ} activeLimit 0 (without t (activeTxids (S .active)))))
+            ∙ dropped-form (S .active) (S .clock) (R .mends .listed) (z .active) t .after i le;
+      };
       heads = refl;
       postings = refl;
       «posting_count» = refl;
@@ -149,7 +127,7 @@ abort-aborts S x L z R h =
       poisoned = refl;
       doomed = refl;
       bound = refl;
-      tx = refl;
+      tx = only-txid t;
     })
 
 -- and the store rests with the chains it has

@@ -18,7 +18,7 @@ use Rattle.call_laws.specs.Refusals.{begin-refused, begin-accepted, writ
 use Rattle.call_laws.specs.Counts.{SizedTx}
 use Rattle.call_laws.specs.BeginLaws.{begin-keeps}
 use Rattle.call_laws.specs.RowLockLaws.{rowLock-keeps}
-use Rattle.call_laws.specs.WriteLaws.{write-writes, write-keeps}
+use Rattle.call_laws.specs.WriteLaws.{write-took, write-keeps}
 use Rattle.call_laws.specs.AbortLaws.{abort-aborts, abort-keeps}
 
 -- a resting store of the right sizes, with a clock that has not been lowered
@@ -70,7 +70,7 @@ module _ (S : Store) (z : Sized S) (k : resting S ≡ true) where
   write-stays x r v y = either (numberOf (write S x r v .refusal))
       (λ h. let K = write-keeps S x r v z h y in
       let R = rests S z k in
-      record { sized = K .sized; rests = K .rests; clock = rw (write-writes S x r v z h (R .0) (R .1) .store) (omega arith) })
+      record { sized = K .sized; rests = K .rests; clock = rw (write-took S x r v z h) (omega arith) })
       (λ n. rw (write-refused S x r v n) same)
 
   -- row lock

@@ -2,17 +2,17 @@
 use mathlib.Core.Path.{_≡_, refl, sym, ap, _∙_}
 use mathlib.Core.Bool.{true, false, _||_}
 use mathlib.Core.List.{List, [], _∷_, _++_}
+use mathlib.Core.Logic.{_≢_}
 use Prim.Native.Nat.{ℕ, suc, _≤_, _<_}
 use native.Mathlib.Omega.{arith}
 use lib.ListN.{length, getD, length-append}
 use lib.Dec.{eqb}
 use borrow.Author.Tests.{eqb-true, eq-eqb, ne-eqb, le-leb}
-use Rattle.records.specs.Limits.{activeLimit}
-use Rattle.records.specs.Zero.{onlyTxid, zeroTx}
+use Rattle.records.specs.Limits.{activeLimit, writeLimit, readLimit, indexReadLimit, savepointLimit}
+use Rattle.records.specs.Zero.{noWrite, noRead, noIndexRead, onlyTxid, zeroTx}
 use Rattle.rules.specs.Lists.{memb}
-use Rattle.rules.specs.Types.{Store, Reply}
+use Rattle.rules.specs.Types.{Store}
 use Rattle.rules.specs.Store.{activeTxids}
-use Rattle.rules.specs.Transaction.{writesOf, readsOf, indexReadsOf, snapshotOf, savepointsOf}
 use Rattle.rules.specs.Admitted.{finished}
 use Rattle.rules.specs.Fit.{countsFit, fit}
 use Rattle.rules.specs.Numbers.{numberOf}
@@ -26,6 +26,11 @@ use Rattle.posting_laws.specs.Posted.{mem-append}
 use Rattle.basic_laws.specs.Rising.{rising-from}
 use Rattle.basic_laws.specs.LaidOutActive.{active-of}
 use Rattle.basic_laws.specs.LaidOut.{before-take}
+use Rattle.basic_laws.specs.Placed.{getD-any}
+use Rattle.statements.specs.StoreWords.{Part, Heads, Xmin, Xmax, Next, Values, RowLocks, Postings, StripeGuards, PartitionGuards, Stamps, Active, Clock}
+use Rattle.statements.specs.StoreWords.{Poisoned, Doomed, Bound, Kept}
+use Rattle.statements.specs.CallWords.{ZeroWrite, ZeroRead, ZeroIndexRead, Zero, Smallest, Begins}
+use Rattle.sentences.specs.CallsSay.{zero-behind, none-at-all, zero-write, zero-read, zero-index-read}
 use Rattle.basic_laws.specs.Places.{Rising, is-rising, from-zero}
 use Rattle.admitted_laws.specs.Repairable.{ActiveForm}
 use Rattle.recovery_laws.specs.Sizes.{sized-all}
@@ -45,12 +50,6 @@ mem-more l c t = mem-append l (c ∷ []) t ∙ rw (or-none (eqb t c))
 rising-more : (lo : ℕ) (l : List ℕ) (c : ℕ) → lo ≤ c → Rising lo l → ((t : ℕ) → memb t l ≡ true → t < c) → Rising lo (l ++ c ∷ [])
 rising-more lo [] c le r h = (le, tt)
 rising-more lo (x ∷ l) c le r h = (r .0, rising-more (suc x) l c (h x (mem-here x l)) (r .1) (λ t m. h t (mem-there t x l m)))
-
--- the smallest of the active txids, or the new one
-pub record Smallest (l : List ℕ) (t m : ℕ) : Type 0 where
-  pub either : (memb m l || eqb m t) ≡ true
-  pub least : (u : ℕ) → memb u l ≡ true → m ≤ u
-  pub within : m ≤ t
 
 -- the first of a rising list is the smallest
 smallest : (l : List ℕ) (t : ℕ) → Rising 1 l → ((u : ℕ) → memb u l ≡ true → u < t) → Smallest l t (getD l 0 t)
@@ -135,24 +134,9 @@ module _ (S : Store) (L : ℕ → List ℕ) (z : Sized S) (R : Rests S L) (few :
     present = le-leb clock (suc clock) (omega arith);
   })
 
--- "txid and snapshot_xmax are the clock, which then rises; snapshot holds the earlier active list; snapshot_xmin is its smallest or the txid"
-pub record Begins (S : Store) (a : Reply) : Type 0 where
-  pub txid : a .tx .txid .0 ≡ S .clock
-  pub fresh : memb (S .clock) (activeTxids (S .active)) ≡ false
-  pub active : activeTxids (a .store .active) ≡ activeTxids (S .active) ++ S .clock ∷ []
-  pub risen : a .store .clock ≡ suc (S .clock)
-  pub latest : a .tx .«snapshot_xmax» .0 ≡ S .clock
-  pub earliest : Smallest (activeTxids (S .active)) (S .clock) (a .tx .«snapshot_xmin» .0)
-  pub snapshot : snapshotOf (a .tx) ≡ activeTxids (S .active)
-  pub writes : writesOf (a .tx) ≡ []
-  pub reads : readsOf (a .tx) ≡ []
-  pub «index_reads» : indexReadsOf (a .tx) ≡ []
-  pub savepoints : savepointsOf (a .tx) ≡ []
-  pub «index_conflict» : a .tx .«index_conflict» ≡ false
-
 -- an accepted begin does so
 pub begin-begins : (S : Store) → Sized S → numberOf (begin S .refusal) ≡ 0 → Begins S (begin S)
-unfolding begun
+unfolding begun zeroTx onlyTxid
 begin-begins S z h =
     let P = begin-passed S h in
     let acts = activeTxids (S .active) in
@@ -161,17 +145,40 @@ begin-begins S z h =
     rw (begin-accepted S h) (record {
       txid = refl;
       fresh = by (memb (S .clock) acts) (λ m. absurd (omega (arith, F .past (S .clock) m))) (λ e. e);
-      active = listed S (R .0) z (R .1) (P .few);
-      risen = refl;
       latest = refl;
       earliest = smallest acts (S .clock) (F .climb) (F .past);
       snapshot = sym (before-take (S .active));
-      writes = refl;
-      reads = refl;
-      «index_reads» = refl;
-      savepoints = refl;
+      behind = record { long = z .active; zero = λ d i le lt. getD-any (S .active) i d 0 (omega (arith, z .active)) ∙ F .after i le };
+      writes = none-at-all noWrite ZeroWrite zero-write writeLimit;
+      reads = none-at-all noRead ZeroRead zero-read readLimit;
+      «index_reads» = none-at-all noIndexRead ZeroIndexRead zero-index-read indexReadLimit;
+      savepoints = none-at-all 0 Zero refl savepointLimit;
       «index_conflict» = refl;
+      active = listed S (R .0) z (R .1) (P .few);
+      after = rw one-more at (zero-behind 0 Zero refl activeLimit (acts ++ S .clock ∷ []));
+      risen = refl;
+      else = λ part a b. entered-else part a b;
     })
+  where
+    one-more : length (activeTxids (S .active) ++ S .clock ∷ []) ≡ suc (length (activeTxids (S .active)))
+    one-more = omega (arith, length-append (activeTxids (S .active)) (S .clock ∷ []))
+
+    entered-else : (part : Part) → part ≢ Active → part ≢ Clock → Kept S (entered S) part
+    entered-else Heads a b = refl
+    entered-else Xmin a b = refl
+    entered-else Xmax a b = refl
+    entered-else Next a b = refl
+    entered-else Values a b = (refl, refl)
+    entered-else RowLocks a b = (refl, refl)
+    entered-else Postings a b = (refl, refl)
+    entered-else StripeGuards a b = refl
+    entered-else PartitionGuards a b = refl
+    entered-else Stamps a b = refl
+    entered-else Active a b = absurd (a refl)
+    entered-else Clock a b = absurd (b refl)
+    entered-else Poisoned a b = refl
+    entered-else Doomed a b = refl
+    entered-else Bound a b = refl
 
 -- the store rests with the chains it has, and the new transaction is fit and active
 module _ (S : Store) (z : Sized S) (h : numberOf (begin S .refusal) ≡ 0) where

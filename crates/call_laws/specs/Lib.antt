@@ -2,6 +2,7 @@
 -- Their numbers.
 pub mod FirstLine
 pub mod Refusals
+pub mod RefusedCalls
 pub mod Passed
 -- What the store and the transaction keep.
 pub mod ActiveList

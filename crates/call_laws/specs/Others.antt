@@ -1,11 +1,10 @@
 -- A call of one transaction keeps every other one fit and active.
 use mathlib.Core.Path.{_≡_, refl, sym, ap, _∙_}
-use mathlib.Core.Bool.{true}
+use mathlib.Core.Bool.{true, false}
 use mathlib.Core.List.{List, [], _∷_}
 use Prim.Native.Nat.{ℕ, suc, _≤_, _<_}
 use native.Mathlib.Omega.{arith}
 use lib.ListN.{getD}
-use lib.Seq.{getD-set-other}
 use lib.Dec.{eqb}
 use borrow.Author.Tests.{ne-eqb}
 use Rattle.rules.specs.Lists.{memb}
@@ -25,7 +24,9 @@ use Rattle.call_laws.specs.Keeps.{Keeps}
 use Rattle.call_laws.specs.BeginLaws.{mem-more, begin-begins, begin-chains, begin-keeps}
 use Rattle.call_laws.specs.RowLockLaws.{rowLock-chains, rowLock-keeps}
 use Rattle.call_laws.specs.WriteLaws.{write-writes, write-chains, write-keeps}
-use Rattle.call_laws.specs.AbortLaws.{SameSlot, abort-aborts, abort-chains, abort-keeps}
+use Rattle.statements.specs.StoreWords.{SameSlot, Part, Heads, Xmin, Next, Values, Clock, Active, Kept}
+use Rattle.sentences.specs.StoreSays.{number, differ}
+use Rattle.call_laws.specs.AbortLaws.{abort-aborts, abort-chains, abort-keeps}
 
 -- a transaction y of u, and a store T that has the chains of S, a clock that is not lower, and u's slots as they were
 other-keeps : (S T : Store) (y : Tx) (L : ℕ → List ℕ) → Rests S L → Sized S → Rests T L → Sized T → T .heads ≡ S .heads → S .clock ≤ T .clock
@@ -66,13 +67,15 @@ module _ (S : Store) (x y : Tx) where
   write-others r v h s K =
       let z = K .sized in
       let R = rests S z (K .rests) in
-      let W = write-writes S x r v z h (R .0) (R .1) in
+      let W = write-writes S x r v z h s (R .0) (R .1) in
       let p = write S x r v .slot .0 in
-      let e = W .store in
       let ne : (n : ℕ) → 0 < getD (S .xmin) n 0 → n ≡ p → ⊥ = λ n u k. omega (arith, rw k at u, W .slot .free) in
-      other-keeps S (write S x r v .store) y (R .0) (R .1) z (write-chains S x r v z h s (R .0) (R .1)) (write-keeps S x r v z h s .sized) (rw e)
-      (rw e (omega arith))
-      (λ n u q. rw e (getD-set-other (S .xmin) p n (x .txid .0) 0 (ne n u), getD-set-other (S .next) p n (W .base) 0 (ne n u))) (rw e (K .active)) K
+      let kept : (a : Part) → eqb (number a) (number Xmin) ≡ false → eqb (number a) (number Next) ≡ false → eqb (number a) (number Values) ≡ false
+      → Kept S (write S x r v .store) a = λ a i j k. W .store .else a (differ a Xmin i) (differ a Next j) (differ a Values k) in
+      other-keeps S (write S x r v .store) y (R .0) (R .1) z (write-chains S x r v z h s (R .0) (R .1)) (write-keeps S x r v z h s .sized)
+      (kept Heads refl refl refl)
+      (rw (kept Clock refl refl refl) (omega arith))
+      (λ n u q. (W .store .xmin .other 0 n (ne n u), W .store .next .other 0 n (ne n u))) (rw (kept Active refl refl refl) (K .active)) K
 
   -- abort, of another txid
   pub abort-others : numberOf (abort S x .refusal) ≡ 0 → (y .txid .0 ≡ x .txid .0 → ⊥) → Keeps S y → Keeps (abort S x .store) y

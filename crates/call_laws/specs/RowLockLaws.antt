@@ -2,16 +2,15 @@
 use mathlib.Core.Path.{_≡_, refl, _∙_}
 use mathlib.Core.Bool.{true, false, not, _&&_}
 use mathlib.Core.List.{List}
-use mathlib.Core.Logic.{_↔_}
+use mathlib.Core.Logic.{_≢_, _↔_}
 use Prim.Native.Nat.{ℕ, _<_}
 use native.Mathlib.Omega.{arith}
 use lib.ListN.{getD, length}
 use lib.Seq.{getD-set-same, getD-set-other}
 use lib.Dec.{eqb}
 use borrow.Author.Tests.{eqb-false, ne-eqb, not-true}
-use Rattle.records.specs.Setters.{slotted}
 use Rattle.rules.specs.Lists.{memb}
-use Rattle.rules.specs.Types.{Store, Tx, Reply}
+use Rattle.rules.specs.Types.{Store, Tx}
 use Rattle.rules.specs.Store.{activeTxids}
 use Rattle.rules.specs.Fit.{fit}
 use Rattle.rules.specs.Numbers.{numberOf}
@@ -20,6 +19,9 @@ use Rattle.rules.specs.Calls.{lockedByAnother, rowLock}
 use Rattle.basic_laws.specs.Cases.{and-true}
 use Rattle.basic_laws.specs.Chain.{chain-head, chain-below}
 use Rattle.statements.specs.Sized.{Sized}
+use Rattle.statements.specs.StoreWords.{Part, Heads, Xmin, Xmax, Next, Values, RowLocks, Postings, StripeGuards, PartitionGuards, Stamps, Active, Clock}
+use Rattle.statements.specs.StoreWords.{Poisoned, Doomed, Bound, Kept}
+use Rattle.statements.specs.CallWords.{Locks}
 use Rattle.admitted_laws.specs.Resting.{Rests, rests, rested}
 use Rattle.admitted_laws.specs.Repairable.{SlotForm}
 use Rattle.recovery_laws.specs.Sizes.{sized-apply}
@@ -41,15 +43,6 @@ live-lock S t p =
           (a .0, (eqb-false o t (not-true (eqb o t) (b .0)), b .1)),
       λ h. rw (h .0, ne-eqb o t (h .1 .0)) (h .1 .1),
     )
-
--- the head is locked by the transaction, every other slot is as it was, and nothing else changes
-pub record Locks (S : Store) (x : Tx) (r : ℕ) (a : Reply) : Type 0 where
-  pub locked : getD (a .store .locked) (getD (S .heads) r 0) false ≡ true
-  pub owner : getD (a .store .owner) (getD (S .heads) r 0) 0 ≡ x .txid .0
-  pub otherLocks : (p : ℕ) → (p ≡ getD (S .heads) r 0 → ⊥) → getD (a .store .locked) p false ≡ getD (S .locked) p false
-  pub otherOwners : (p : ℕ) → (p ≡ getD (S .heads) r 0 → ⊥) → getD (a .store .owner) p 0 ≡ getD (S .owner) p 0
-  pub rest : a .store ≡ slotted (S .xmin) (S .xmax) (S .next) (S .key) (S .has) (a .store .locked) (a .store .owner) S
-  pub tx : a .tx ≡ x
 
 module _ (S : Store) (p t : ℕ) where
   abbrev locked : Store
@@ -82,6 +75,24 @@ module _ (S : Store) (p t : ℕ) where
     off = R .mends .stands .off;
   }) R
 
+  -- nothing but the lock changes
+  lock-else : (part : Part) → part ≢ RowLocks → Kept S locked part
+  lock-else Heads n = refl
+  lock-else Xmin n = refl
+  lock-else Xmax n = refl
+  lock-else Next n = refl
+  lock-else Values n = (refl, refl)
+  lock-else RowLocks n = absurd (n refl)
+  lock-else Postings n = (refl, refl)
+  lock-else StripeGuards n = refl
+  lock-else PartitionGuards n = refl
+  lock-else Stamps n = refl
+  lock-else Active n = refl
+  lock-else Clock n = refl
+  lock-else Poisoned n = refl
+  lock-else Doomed n = refl
+  lock-else Bound n = refl
+
 -- an accepted row lock
 module _ (S : Store) (x : Tx) (r : ℕ) (z : Sized S) (h : numberOf (rowLock S x r .refusal) ≡ 0) where
   abbrev head : ℕ
@@ -108,7 +119,7 @@ module _ (S : Store) (x : Tx) (r : ℕ) (z : Sized S) (h : numberOf (rowLock S x
         owner = getD-set-same (S .owner) head (x .txid .0) 0 (omega (arith, b .1, z .next, z .owner));
         otherLocks = λ q ne. getD-set-other (S .locked) head q true false ne;
         otherOwners = λ q ne. getD-set-other (S .owner) head q (x .txid .0) 0 ne;
-        rest = refl;
+        else = λ part n. lock-else S head (x .txid .0) part n;
         tx = refl;
       })
 

@@ -1,64 +1,28 @@
 -- A free slot taken for a version: the store still rests.
 use mathlib.Core.Path.{_≡_, refl, sym, _∙_}
 use mathlib.Core.Bool.{Bool, true, false}
-use mathlib.Core.List.{List, [], _∷_}
-use Prim.Native.Nat.{ℕ, zero, suc, _+_, _-_, _≤_, _<_}
+use mathlib.Core.List.{List}
+use Prim.Native.Nat.{ℕ, _≤_, _<_}
 use native.Mathlib.Omega.{arith}
-use lib.ListN.{length, getD, set, drop, length-set, length-drop}
-use lib.Seq.{getD-set-same, getD-set-other, getD-drop}
+use lib.ListN.{length, getD, set, length-set}
+use lib.Seq.{getD-set-same, getD-set-other}
 use lib.Dec.{eqb}
 use borrow.Author.Tests.{eqb-true, eqb-false}
 use Rattle.records.specs.Limits.{slots}
 use Rattle.records.specs.Setters.{slotted}
-use Rattle.rules.specs.Lists.{memb, firstZero}
+use Rattle.rules.specs.Lists.{memb}
 use Rattle.rules.specs.Types.{Store, Value, Absent, Key}
 use Rattle.rules.specs.Store.{activeTxids}
 use Rattle.rules.specs.Admitted.{finished}
 use Rattle.rules.specs.Puts.{takeSlot, applyAll}
-use Rattle.rules.specs.Calls.{lowestFree}
 use Rattle.basic_laws.specs.Cases.{by, clash}
 use Rattle.statements.specs.Sized.{Sized}
+use Rattle.statements.specs.StoreWords.{Lowest}
 use Rattle.admitted_laws.specs.Repairable.{SlotForm, Off, OffForm}
 use Rattle.recovery_laws.specs.Start.{txid-positive, txid-unfinished}
 use Rattle.recovery_laws.specs.Sizes.{sized-all}
 use Rattle.admitted_laws.specs.Resting.{Rests}
 use Rattle.recovery_laws.specs.Carried.{slots-rest}
-
--- nonzero numbers before a place, and one more in front
-up : (x : ℕ) (l : List ℕ) (i : ℕ) → 0 < x → ((j : ℕ) → j < i → 0 < getD l j 0) → (j : ℕ) → j < suc i → 0 < getD (x ∷ l) j 0
-up x l i n h zero lt = n
-up x l i n h (suc j) lt = h j (omega arith)
-
--- the first 0 of an array, counted from a number past 0
-first-zero : (k : ℕ) (l : List ℕ) → (firstZero (suc k) l ≡ 0 → ⊥)
-    → (i : ℕ) × (firstZero (suc k) l ≡ suc k + i) × (i < length l) × (getD l i 0 ≡ 0) × ((j : ℕ) → j < i → 0 < getD l j 0)
-first-zero k [] n = absurd (n refl)
-first-zero k (x ∷ l) n = by (eqb x 0)
-    (λ e. (zero, rw e (omega arith), omega arith, eqb-true x 0 e, λ j lt. absurd (omega arith)))
-    (λ e. let r = first-zero (suc k) l (λ q. n (rw e q)) in
-    (suc (r .0), rw e (omega (arith, r .1)), omega (arith, r .2), r .3, up x l (r .0) (omega (arith, eqb-false x 0 e)) (r .4)))
-
--- "the lowest free slot"
-pub record Lowest (xmin : List ℕ) (p : ℕ) : Type 0 where
-  pub some : 0 < p
-  pub within : p < length xmin
-  pub free : getD xmin p 0 ≡ 0
-  pub least : (q : ℕ) → 0 < q → q < p → 0 < getD xmin q 0
-
--- the definition finds it
-pub lowest : (xmin : List ℕ) → (lowestFree xmin ≡ 0 → ⊥) → Lowest xmin (lowestFree xmin)
-unfolding lowestFree
-lowest xmin n =
-    let r = first-zero 0 (drop 1 xmin) n in
-    let at : (i : ℕ) → getD (drop 1 xmin) i 0 ≡ getD xmin (1 + i) 0 = λ i. getD-drop 1 xmin i 0 in
-    rw (r .1) (record {
-      some = omega arith;
-      within = omega (arith, r .2, length-drop 1 xmin);
-      free = sym (at (r .0)) ∙ r .3;
-      least = λ q pos lt.
-          let e : 1 + (q - 1) ≡ q = omega arith in
-          rw (at (q - 1), e) at (r .4 (q - 1) (omega arith));
-    })
 
 -- the store with slot p taken for a version of t over the base q
 abbrev pub keyAt : ℕ → Value → List ℕ → List ℕ

@@ -31,18 +31,16 @@ use Rattle.admitted_laws.specs.Resting.{Rests, rests, rested}
 use Rattle.call_laws.specs.Refusals.{write-accepted}
 use Rattle.call_laws.specs.Passed.{write-passed}
 use Rattle.basic_laws.specs.Blanks.{all-both, all-more, all-mid, drop-pad}
-use Rattle.statements.specs.ReadWords.{VisibleAt, FirstIn, NoneIn, LastOf, ofRow}
+use Rattle.statements.specs.ReadWords.{ofRow}
 use Rattle.call_laws.specs.ReadLaws.{visibleAt, mem-mid, first-of, none-of, first-none, last-of, last-none, writes-taken}
 use Rattle.call_laws.specs.Counts.{SizedTx, blankWrite, counts-parts, parts-counts}
 use Rattle.call_laws.specs.Keeps.{Keeps}
 use Rattle.call_laws.specs.StaysFit.{fitsIn, on-same, writes-fit}
-use Rattle.call_laws.specs.Took.{Lowest, lowest, took, took-is, took-sized, took-rests}
-
--- "base is the found committed version's pointer (0 if none), kept for later writes of that row"; the chain of row r is c
-pub data Based (S : Store) (x : Tx) (r : ℕ) (c : List ℕ) : ℕ → Type 0 where
-  kept : (w : Write) → LastOf r (writesOf x) w → Based S x r c (w .base .0)
-  found : (p : ℕ) → any (ofRow r) (writesOf x) ≡ false → FirstIn (VisibleAt S x) c p → Based S x r c p
-  none : any (ofRow r) (writesOf x) ≡ false → NoneIn (VisibleAt S x) c → Based S x r c 0
+use Rattle.call_laws.specs.Took.{took, took-is, took-sized, took-rests}
+use Rattle.statements.specs.StoreWords.{Blank, Lowest, Xmin, Xmax, Next, Values, RowLocks}
+use Rattle.statements.specs.CallWords.{Based, kept, found, none, Writes}
+use Rattle.sentences.specs.StoreSays.{lowest, differ, slot-taken}
+use Rattle.sentences.specs.CallsSay.{one-write-more}
 
 -- a write record
 abbrev pub writeOf : ℕ → ℕ → ℕ → Write
@@ -224,26 +222,37 @@ module _ (S : Store) (x : Tx) (L : ℕ → List ℕ) (z : Sized S) (R : Rests S 
 
 -- an accepted write
 module _ (S : Store) (x : Tx) (r : ℕ) (v : Value) (z : Sized S) (h : numberOf (write S x r v .refusal) ≡ 0) where
-  -- the slot is the lowest free one, the base is that of the row, and they are the transaction's last write; nothing else of it changes
-  pub record Writes (L : ℕ → List ℕ) : Type 0 where
-    pub slot : Lowest (S .xmin) (write S x r v .slot .0)
-    pub base : ℕ
-    pub based : Based S x r (L r) base
-    pub tx : write S x r v .tx ≡ withWrites (writesOf x ++ writeOf r base (write S x r v .slot .0) ∷ []) x
-    pub store : write S x r v .store ≡ took (write S x r v .slot .0) (x .txid .0) base v S
+  -- the store, with the slot taken
+  pub write-took : write S x r v .store ≡ took (lowestFree (S .xmin)) (x .txid .0) (baseOf S x r) v S
+  write-took = rw (write-accepted S x r v h) (took-is (lowestFree (S .xmin)) (x .txid .0) (baseOf S x r) v S)
 
-  -- an accepted write does so
-  pub write-writes : (L : ℕ → List ℕ) → Rests S L → Writes L
-  write-writes L R =
+  -- an accepted write takes the lowest free slot over the row's base, and records that as the transaction's last write; nothing else changes
+  pub write-writes : SizedTx x → (L : ℕ → List ℕ) → Rests S L → Writes S x r v (L r) (write S x r v)
+  write-writes y L R =
       let P = write-passed S x r v h in
       let e = write-accepted S x r v h in
-      record {
-        slot = rw e (lowest (S .xmin) (P .free));
+      let p = lowestFree (S .xmin) in
+      let F = R .mends .slots .free p (lowest (S .xmin) (P .free) .free) in
+      let B : Blank S p = record {
+        xmin = lowest (S .xmin) (P .free) .free;
+        xmax = F .unmarked;
+        next = F .unlinked;
+        key = R .mends .slots .absent p (F .empty);
+        has = F .empty;
+        locked = F .unlocked;
+        owner = F .unowned;
+      } in
+      let T = slot-taken S p (x .txid .0) (baseOf S x r) v B in
+      rw e (record {
+        slot = lowest (S .xmin) (P .free);
         base = baseOf S x r;
         based = based S x L z R (P .first .fits) r (P .row);
-        tx = rw e;
-        store = rw e (took-is (lowestFree (S .xmin)) (x .txid .0) (baseOf S x r) v S);
-      }
+        tx = one-write-more x r (baseOf S x r) p (omega (arith, y .writes, P .room)) (P .room);
+        store = T;
+        unmarked = rw (T .else Xmax (differ Xmax Xmin refl) (differ Xmax Next refl) (differ Xmax Values refl)) (F .unmarked);
+        unlocked = rw (T .else RowLocks (differ RowLocks Xmin refl) (differ RowLocks Next refl) (differ RowLocks Values refl) .0) (F .unlocked);
+        unowned = rw (T .else RowLocks (differ RowLocks Xmin refl) (differ RowLocks Next refl) (differ RowLocks Values refl) .1) (F .unowned);
+      })
 
   -- the store rests with the same chains
   pub write-chains : SizedTx x → (L : ℕ → List ℕ) → Rests S L → Rests (write S x r v .store) L

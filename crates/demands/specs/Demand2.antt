@@ -4,18 +4,18 @@ use mathlib.Core.Path.{_≡_, refl, sym, ap, _∙_, subst}
 use mathlib.Core.Bool.{Bool, true, false, cond, _&&_}
 use mathlib.Core.List.{List, [], _∷_, _++_}
 use mathlib.Core.Logic.{_↔_, _≢_, _⊎_}
-use Prim.Native.Nat.{ℕ, _<_}
+use Prim.Native.Nat.{ℕ, _≤_, _<_}
 use native.Mathlib.Omega.{arith}
-use lib.ListN.{length, getD}
-use borrow.Author.Tests.{eqb-true}
+use lib.ListN.{length, getD, length-take}
+use borrow.Author.Tests.{eqb-true, leb-true}
 use Rattle.records.specs.Limits.{rows, writeLimit}
-use Rattle.records.specs.Zero.{noWrite, onlyTxid}
-use Rattle.rules.specs.Lists.{memb, isZero, pad}
+use Rattle.rules.specs.Lists.{memb, isZero}
 use Rattle.rules.specs.Types.{Store, Tx, Schedule, Answer, Cut, Uncut}
 use Rattle.rules.specs.Store.{activeTxids, postingsOf}
-use Rattle.rules.specs.Transaction.{writesOf, readsOf, indexReadsOf, finalWrites, finals, emptied}
+use Rattle.rules.specs.Transaction.{writesOf, readsOf, indexReadsOf, finalWrites, finals}
 use Rattle.rules.specs.Chains.{walk, on}
 use Rattle.rules.specs.Admitted.{headPostings, resting}
+use Rattle.rules.specs.Fit.{fit}
 use Rattle.rules.specs.Numbers.{numberOf, isDone}
 use Rattle.rules.specs.Puts.{kStripe, kPartition, kInsert, kRemove, kXmax, kHead, kFree, kDrop, kStamp, kPoison, kDoom, putDrop, applyAll}
 use Rattle.rules.specs.Calls.{abort}
@@ -24,6 +24,11 @@ use Rattle.rules.specs.Changes.{release, insertions, removals, publication, rec
 use Rattle.rules.specs.Commit.{runOf, fails, unloggedWrites}
 use Rattle.rules.specs.Answer.{uncut, commit}
 use Rattle.basic_laws.specs.Cases.{clash, by, or-left}
+use Rattle.basic_laws.specs.TestParts.{fit-parts}
+use Rattle.sentences.specs.CallsSay.{lists-emptied, only-txid, names-finals}
+use Rattle.run_laws.specs.FinalWrites.{finals-few}
+use Rattle.call_laws.specs.Counts.{counts-parts}
+use Rattle.statements.specs.CallWords.{ListsEmptied, OnlyTxid, Names}
 use Rattle.run_laws.specs.OnlyKinds.{only, only-both, kept, is-not}
 use Rattle.run_laws.specs.Outcome.{guardsTaken, afterInsert, afterRemove, afterPublish, afterRecycle, afterFinish, afterStamp, outcome}
 use Rattle.statements.specs.Demands.{Demand2, Demand2Aborts, Demand2Abort}
@@ -42,6 +47,13 @@ use Rattle.recovery_laws.specs.Again.{commit-rests, stood}
 use Rattle.call_laws.specs.ActiveList.{unfinished-is}
 use Rattle.call_laws.specs.CommitAborts.{commit-aborts, abort-call}
 use Rattle.demands.specs.Demand3.{with-same}
+
+-- "At most 16 writes", so no more final ones
+few : (S : Store) (x : Tx) → fit S x ≡ true → length (finals x) ≤ writeLimit
+unfolding finals
+few S x k =
+    let n = leb-true (x .«write_count») writeLimit (counts-parts x (fit-parts S x k .counts) .writes) in
+    omega (arith, finals-few (writesOf x), length-take (x .«write_count») (x .writes))
 
 -- on an unpoisoned resting store a txid that is not active has no slot off the chains
 no-stray : (T : Store) → Sized T → resting T ≡ true → T .poisoned ≡ false → (t : ℕ) → 0 < t → memb t (activeTxids (T .active)) ≡ false
@@ -116,7 +128,7 @@ module _ (S : Store) (x : Tx) (logged : Bool) (plan : Schedule) where
         let gone = subst (λ (T : Store). memb (x .txid .0) (activeTxids (T .active)) ≡ false) (sym (e .0)) (s .1) in
         let start = rests S z (ok .rests) in
         record {
-          names = left .1;
+          names = subst (Names (x .txid .0) (finals x)) (sym (left .1)) (names-finals x (few S x (ok .fits)));
           rows = λ q lt. sym (shows-heads (A .store) sized r h q lt) ∙ ap (λ (T : Store). shown T q) (e .0) ∙ s .0 .shows q lt
               ∙ with-same (S .key) (S .has) (finals x) (shown S) (rowValue S) (λ p l. shows-heads S z (ok .rests) sound p l) q lt;
           postings = row-0-exact S x logged plan z Uncut ok d;
@@ -124,7 +136,7 @@ module _ (S : Store) (x : Tx) (logged : Bool) (plan : Schedule) where
           home = no-stray (A .store) sized r h (x .txid .0) (txid-positive S (start .0) z (start .1) (x .txid .0) (ok .active)) gone;
           rests = r;
           healthy = h;
-          lists = left .0;
+          lists = subst (ListsEmptied x) (sym (left .0)) (lists-emptied x);
         }
 
 -- DEMAND 2
@@ -135,7 +147,8 @@ demand-2 S x logged plan z k q =
 -- "Each abort that neither fault nor cut strikes truly frees and deregisters": the aborts inside commit (5, 6, 7, 9, 11, 12, and 19 where only the
 -- rollback failed), whatever the cut allows to be answered, and the call's own
 pub demand-2-aborts : Demand2Aborts
-demand-2-aborts S x logged plan cut z ok f h = commit-aborts S x logged plan cut z ok f h
+demand-2-aborts S x logged plan cut z ok f h =
+    let c = commit-aborts S x logged plan cut z ok f h in (c .0, subst (OnlyTxid (x .txid .0)) (sym (c .1)) (only-txid (x .txid .0)))
 
 pub demand-2-abort : Demand2Abort
-demand-2-abort S x z h = abort-call S x z h
+demand-2-abort S x z h = let c = abort-call S x z h in (c .0, subst (OnlyTxid (x .txid .0)) (sym (c .1)) (only-txid (x .txid .0)))

@@ -5,6 +5,7 @@ pub mod Carried
 -- Theorem R: recovery.
 pub mod ArraysKept
 pub mod Recovering
+pub mod Repaired
 -- Theorem P: every prefix of a commit's stores.
 pub mod Unfinished
 pub mod Sizes

@@ -40,23 +40,23 @@ unfolding finished
 all-finished u = by (eqb u 0) (λ e. rw e) (λ e. rw e)
 
 module _ (S : Store) (L : ℕ → List ℕ) (z : Sized S) (M : Mends S L) where
-  abbrev f : ℕ → Bool
+  abbrev pub f : ℕ → Bool
   f = finished (S .active) (S .doomed)
 
   -- heads, chains and marks once unfinished first versions are gone
-  abbrev hs : List ℕ
+  abbrev pub hs : List ℕ
   hs = map (trimHead f (S .xmin) (S .next)) (S .heads)
 
-  abbrev N : ℕ → List ℕ
+  abbrev pub N : ℕ → List ℕ
   N r = trim f (S .xmin) (L r)
 
-  abbrev seen : List ℕ
+  abbrev pub seen : List ℕ
   seen = walk hs (S .next) .seen
 
-  heads-long : length hs ≡ length (S .heads)
+  pub heads-long : length hs ≡ length (S .heads)
   heads-long = length-map (S .heads) (trimHead f (S .xmin) (S .next))
 
-  chains : Chains hs (S .next) N
+  pub chains : Chains hs (S .next) N
   chains = record {
     chain =
         λ r lt. rw (List·getD-map (trimHead f (S .xmin) (S .next)) (S .heads) r 0)
@@ -66,7 +66,7 @@ module _ (S : Store) (L : ℕ → List ℕ) (z : Sized S) (M : Mends S L) where
         M .stands .chains .apart r q x (rw heads-long at lr) (rw heads-long at lq) (trim-mem f (S .xmin) (L r) x mr) (trim-mem f (S .xmin) (L q) x mq);
   }
 
-  chained : Chained hs (S .next) seen N
+  pub chained : Chained hs (S .next) seen N
   chained = walk-complete hs (S .next) N (z .next) chains .1
 
   unmarked : (x : ℕ) → Off hs N x → on seen x ≡ false
@@ -76,7 +76,7 @@ module _ (S : Store) (L : ℕ → List ℕ) (z : Sized S) (M : Mends S L) where
   marked-used : (x : ℕ) → on seen x ≡ true → 0 < getD (S .xmin) x 0
   marked-used x e = let g = chained .found x e in M .stands .led (g .0) x (rw heads-long at (g .1)) (trim-mem f (S .xmin) (L (g .0)) x (g .2))
 
-  zero-off : on seen 0 ≡ false
+  pub zero-off : on seen 0 ≡ false
   zero-off = by (on seen 0) (λ e. absurd (omega (arith, marked-used 0 e, M .slots .first))) (λ e. e)
 
   -- a slot past a chain's first is no head
@@ -122,7 +122,7 @@ module _ (S : Store) (L : ℕ → List ℕ) (z : Sized S) (M : Mends S L) where
       (λ e. let o = chained .marked r (getD hs r 0) lt (chain-head (S .next) (getD hs r 0) (N r) (chains .chain r lt) (eqb-false (getD hs r 0) 0 e)) in
       (keep-on 0 seen (S .key) (getD hs r 0) o, keep-on false seen (S .has) (getD hs r 0) o))
 
-  sized : Sized (recovered S)
+  pub sized : Sized (recovered S)
   unfolding recovered
   sized = record {
     heads = heads-long ∙ z .heads;
@@ -178,13 +178,13 @@ module _ (S : Store) (L : ℕ → List ℕ) (z : Sized S) (M : Mends S L) where
       free p e = by (on seen p) (λ o. absurd (omega (arith, marked-used p o, keep-on 0 seen (S .xmin) p o))) (λ o. o)
 
   -- the postings found, taken back from their array
-  found-back : postingsOf (recovered S) ≡ headPostings (S .key) (S .has) 0 hs
+  pub found-back : postingsOf (recovered S) ≡ headPostings (S .key) (S .has) 0 hs
   unfolding recovered postingsOf
   found-back =
       take-pad postingLimit 0 (headPostings (S .key) (S .has) 0 hs) (omega (arith, heads-length (S .key) (S .has) 0 hs, heads-long, z .heads, rows-posted))
 
   -- they are the heads' of the new store
-  found-same : headPostings (keep 0 seen (S .key)) (keep false seen (S .has)) 0 hs ≡ headPostings (S .key) (S .has) 0 hs
+  pub found-same : headPostings (keep 0 seen (S .key)) (keep false seen (S .has)) 0 hs ≡ headPostings (S .key) (S .has) 0 hs
   found-same = heads-same (S .key) (keep 0 seen (S .key)) (S .has) (keep false seen (S .has)) 0 hs (λ h m.
       let q = mem-at hs h m in
       let k = head-kept (q .0) (q .1) in

@@ -6,7 +6,7 @@ use mathlib.Core.Logic.{_↔_}
 use Prim.Native.Nat.{ℕ}
 use lib.ListN.{replicate}
 use Rattle.records.specs.Limits.{rows}
-use Rattle.records.specs.Zero.{onlyTxid, zeroTx}
+use Rattle.records.specs.Zero.{zeroTx}
 use Rattle.rules.specs.Types.{Store, Tx, Schedule, Cut, Uncut, Value, Absent, Done, Open, NotRepairable}
 use Rattle.rules.specs.Admitted.{repairable, resting}
 use Rattle.rules.specs.Numbers.{numberOf, isDone}
@@ -14,6 +14,7 @@ use Rattle.rules.specs.Calls.{begin, read, write, asRow, lookup, rowLock, abort
 use Rattle.rules.specs.Recovery.{recovered, recover}
 use Rattle.rules.specs.Commit.{fails}
 use Rattle.rules.specs.Answer.{commit}
+use Rattle.statements.specs.CallWords.{OnlyTxid}
 use Rattle.statements.specs.Sized.{Sized, Keyed}
 use Rattle.statements.specs.Words.{Admitted, Quiet, Conflicts, Committed, Freed, abortedNumber, Safe}
 use Rattle.statements.specs.Table.{firstRow, Reason, Answers, Told}
@@ -70,12 +71,12 @@ abbrev pub Demand2Aborts : Type 0
 Demand2Aborts = (S : Store) (x : Tx) (logged : Bool) (plan : Schedule) (cut : Cut)
     → Sized S → Admitted S x plan → fails S x logged plan 23 ≡ false
     → let a = commit S x logged plan cut in
-    abortedNumber (numberOf (a .refusal)) ≡ true → Freed S (x .txid .0) (a .store) × (a .tx ≡ onlyTxid (x .txid .0))
+    abortedNumber (numberOf (a .refusal)) ≡ true → Freed S (x .txid .0) (a .store) × OnlyTxid (x .txid .0) (a .tx)
 
 -- and the call's own
 abbrev pub Demand2Abort : Type 0
 Demand2Abort = (S : Store) (x : Tx) → Sized S → numberOf (abort S x .refusal) ≡ 0
-    → Freed S (x .txid .0) (abort S x .store) × (abort S x .tx ≡ onlyTxid (x .txid .0))
+    → Freed S (x .txid .0) (abort S x .store) × OnlyTxid (x .txid .0) (abort S x .tx)
 
 -- "Stop a commit after any single store, or fail or panic any step that may; then recover. From an admitted store every row shows its old value, or
 -- all final writes show together and every other row its old value": for every resting store, poisoned ones included, every transaction,

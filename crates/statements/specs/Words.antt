@@ -4,14 +4,13 @@ use mathlib.Core.Bool.{Bool, true, false, not, cond, _&&_, _||_}
 use mathlib.Core.List.{List, [], _∷_}
 use mathlib.Core.Logic.{_≢_, _⊎_}
 use Prim.Native.Nat.{ℕ, _<_, _≤_}
-use lib.ListN.{length, getD}
+use lib.ListN.{getD}
 use lib.Dec.{eqb}
-use Rattle.records.specs.Limits.{rows, places, writeLimit}
-use Rattle.records.specs.Zero.{noWrite}
-use Rattle.rules.specs.Lists.{memb, pad, firstOf}
+use Rattle.records.specs.Limits.{rows, places}
+use Rattle.rules.specs.Lists.{memb, firstOf}
 use Rattle.rules.specs.Types.{Store, Tx, Write, ReadRecord, Schedule, Answer, Uncut, Value, Refusal, Done}
 use Rattle.rules.specs.Store.{used, valueAt, activeTxids, postingsOf}
-use Rattle.rules.specs.Transaction.{writesOf, readsOf, indexReadsOf, snapshotOf, finalWrites, finals, emptied}
+use Rattle.rules.specs.Transaction.{writesOf, readsOf, indexReadsOf, snapshotOf, finalWrites, finals}
 use Rattle.rules.specs.Chains.{chainFrom, walk, on}
 use Rattle.rules.specs.Admitted.{finished, headPostings, resting}
 use Rattle.rules.specs.Fit.{fit}
@@ -21,6 +20,8 @@ use Rattle.rules.specs.Recovery.{recover}
 use Rattle.rules.specs.Commit.{unloggedWrites}
 use Rattle.rules.specs.Answer.{commit}
 use Rattle.statements.specs.Sized.{Sized}
+pub use Rattle.statements.specs.StoreWords.{Blank}
+use Rattle.statements.specs.CallWords.{ListsEmptied, Names}
 
 -- PREMISES
 
@@ -90,25 +91,16 @@ withNew key has (w ∷ ws) old r = withNew key has ws (λ q. cond (eqb q (w .row
 -- DEMAND 2: what success leaves
 
 pub record Committed (S : Store) (x : Tx) (a : Answer) : Type 0 where
-  pub names : a .«record» ≡ record { txid = x .txid; writes = pad writeLimit noWrite (finals x); count = length (finals x) }
+  pub names : Names (x .txid .0) (finals x) (a .«record»)
   pub rows : (r : ℕ) → r < rows → rowValue (a .store) r ≡ withNew (S .key) (S .has) (finals x) (rowValue S) r
   pub postings : postingsOf (a .store) ≡ headPostings (a .store .key) (a .store .has) 0 (a .store .heads)
   pub gone : memb (x .txid .0) (activeTxids (a .store .active)) ≡ false
   pub home : (p : ℕ) → getD (a .store .xmin) p 0 ≡ x .txid .0 → on (walk (a .store .heads) (a .store .next) .seen) p ≡ true
   pub rests : resting (a .store) ≡ true
   pub healthy : a .store .poisoned ≡ false
-  pub lists : a .tx ≡ emptied x
+  pub lists : ListsEmptied x (a .tx)
 
 -- what an abort leaves: every off-chain slot of t is all zero, and t is no longer active
-pub record Blank (T : Store) (p : ℕ) : Type 0 where
-  pub xmin : getD (T .xmin) p 0 ≡ 0
-  pub xmax : getD (T .xmax) p 0 ≡ 0
-  pub next : getD (T .next) p 0 ≡ 0
-  pub key : getD (T .key) p 0 ≡ 0
-  pub has : getD (T .has) p false ≡ false
-  pub locked : getD (T .locked) p false ≡ false
-  pub owner : getD (T .owner) p 0 ≡ 0
-
 pub record Freed (S : Store) (t : ℕ) (T : Store) : Type 0 where
   pub freed : (p : ℕ) → getD (S .xmin) p 0 ≡ t → on (walk (S .heads) (S .next) .seen) p ≡ false → Blank T p
   pub gone : memb t (activeTxids (T .active)) ≡ false
