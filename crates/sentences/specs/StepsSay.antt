@@ -1,1 +1,287 @@
 -- "Steps and faults": final writes, changes, guards, publication, recycling, stamps; what is in each list, and in which order.
+use mathlib.Core.Path.{_≡_, refl, sym, ap, _∙_}
+use mathlib.Core.Bool.{Bool, true, false, not, cond, _&&_, _||_}
+use mathlib.Core.List.{List, [], _∷_, _++_, map, reverse, reverse-cons, map-append}
+use mathlib.Core.Logic.{_≢_, _⊎_, inl, inr, ⊎-elim, _↔_}
+use Prim.Native.Nat.{ℕ, zero, suc, _+_, _-_, _<_, _≤_, _%_}
+use native.Mathlib.Omega.{arith}
+use lib.ListN.{length, getD, take, length-append, length-reverse, List·getD-append}
+use lib.Seq.{getD-append-seam}
+use lib.Dec.{eqb, ltb, leb}
+use borrow.Author.Tests.{eqb-true, eqb-false, eq-eqb, ne-eqb, ltb-true, lt-ltb, leb-true, le-leb, not-true, not-false}
+use Rattle.records.specs.Limits.{stripes}
+use Rattle.records.specs.Zero.{noWrite}
+use Rattle.rules.specs.Lists.{any, those, flat, nonzeroFrom, memb, rising, inOrder}
+use Rattle.rules.specs.Types.{Store, Tx, Write, Schedule, Value, Absent, Key}
+use Rattle.rules.specs.Store.{valueAt, sameValue, partitionOf, usedSlots, slotsInForm}
+use Rattle.rules.specs.Transaction.{writesOf, readsOf, indexReadsOf, finalWrites, finals}
+use Rattle.rules.specs.Chains.{walk, on}
+use Rattle.rules.specs.Admitted.{repairable}
+use Rattle.rules.specs.Puts.{Put, putStripe, putPartition, putInsert, putRemove, putFree, putDrop, putStamp, putPoison, ownSlots, abortPuts}
+use Rattle.rules.specs.Changes.{Change, changeOf, indexChanges, changes, postingIn, destinations, sources, stripesIn, changedStripes, guardedStripes}
+use Rattle.rules.specs.Changes.{guardedPartitions, indexGuards, partitionGuards, release, publishOne, insertions, removals, publication, recycled, recycling}
+use Rattle.rules.specs.Changes.{stamping}
+use Rattle.rules.specs.Commit.{fails, count, rollback}
+use Rattle.statements.specs.Sized.{Sized}
+use Rattle.statements.specs.Words.{Some}
+use Rattle.statements.specs.StepWords.{Rises, Exactly, OneEach, InTurn, Reversed, FinalAt, FinalWrites, HasKey, HasNone, SameAt, Changes, ValueIs, NoneForFree}
+use Rattle.statements.specs.StepWords.{ChangesOf, PostsOf, PutsIn, TakesOut, ChangedStripe, GuardedStripe, GuardedPartition, LetsGo, PublishesOne, Publishes}
+use Rattle.statements.specs.StepWords.{Leads, OnChain, OffChainOf, Recycled, FreesAndDrops, RollsBack}
+use Rattle.basic_laws.specs.Cases.{by, clash, iff, or-true, or-false, or-left, or-right, and-true, and-both, mem-here, mem-there}
+use Rattle.basic_laws.specs.Members.{at-mem, mem-those, mem-nonzero}
+use Rattle.basic_laws.specs.Rising.{rising-less, rising-from, mem-inOrder, rising-inOrder}
+use Rattle.basic_laws.specs.Places.{blank-at}
+use Rattle.basic_laws.specs.Chain.{IsChain}
+use Rattle.basic_laws.specs.Chained.{walk-sound}
+use Rattle.basic_laws.specs.TestParts.{slots-parts, repairable-parts}
+
+-- LISTS
+
+-- what the test `rising` says
+rises : (lo : ℕ) (l : List ℕ) → rising lo l ≡ true → Rises l
+rises lo [] h a b lt lb = absurd (omega arith)
+rises lo (x ∷ l) h zero zero lt lb = absurd (omega arith)
+rises lo (x ∷ l) h zero (suc b) lt lb =
+    omega (arith, rising-from (suc x) l (getD l b 0) (and-true (leb lo x) (rising (suc x) l) h .1) (at-mem l b (omega arith)))
+rises lo (x ∷ l) h (suc a) zero lt lb = absurd (omega arith)
+rises lo (x ∷ l) h (suc a) (suc b) lt lb = rises (suc x) l (and-true (leb lo x) (rising (suc x) l) h .1) a b (omega arith) (omega arith)
+
+-- a rising list that is filtered still rises; so do the places of the nonzero numbers
+rising-those : (lo : ℕ) (f : ℕ → Bool) (l : List ℕ) → rising lo l ≡ true → rising lo (those f l) ≡ true
+rising-those lo f [] h = refl
+rising-those lo f (x ∷ l) h =
+    let a = and-true (leb lo x) (rising (suc x) l) h in
+    let r = rising-those (suc x) f l (a .1) in
+    by (f x) (λ e. rw (e, a .0) r) (λ e. rw e (rising-less lo (suc x) (those f l) (omega (arith, leb-true lo x (a .0))) r))
+
+rising-nonzero : (k : ℕ) (l : List ℕ) → rising k (nonzeroFrom k l) ≡ true
+rising-nonzero k [] = refl
+rising-nonzero k (x ∷ l) =
+    let r = rising-nonzero (suc k) l in
+    by (eqb x 0) (λ e. rw e (rising-less k (suc k) (nonzeroFrom (suc k) l) (omega arith) r)) (λ e. rw (e, le-leb k k (omega arith)) r)
+
+-- a member of two lists joined; of a list of images; of a list of lists
+mem-either : (a b : List ℕ) (p : ℕ) → (memb p (a ++ b) ≡ true) ↔ ((memb p a ≡ true) ⊎ (memb p b ≡ true))
+mem-either [] b p = (λ m. inr m, λ e. ⊎-elim (λ k. clash {b = false} k refl) (λ k. k) e)
+mem-either (x ∷ a) b p =
+    let r = mem-either a b p in (
+      λ m. or-true (eqb p x) (memb p (a ++ b)) m
+          (λ e. inl (or-left (eqb p x) (memb p a) e))
+          (λ e. ⊎-elim (λ k. inl (or-right (eqb p x) (memb p a) k)) (λ k. inr k) (r .0 e)),
+      λ e. ⊎-elim
+          (λ k. or-true (eqb p x) (memb p a) k (λ q. or-left (eqb p x) (memb p (a ++ b)) q)
+          (λ q. or-right (eqb p x) (memb p (a ++ b)) (r .1 (inl q))))
+          (λ k. or-right (eqb p x) (memb p (a ++ b)) (r .1 (inr k))) e,
+    )
+
+some-map : {A : Type 0} (f : A → ℕ) (l : List A) (i : ℕ) → (memb i (map f l) ≡ true) ↔ Some (λ a. i ≡ f a) l
+some-map f [] i = (λ m. clash {b = false} m refl, λ e. absurd e)
+some-map f (a ∷ l) i =
+    let r = some-map f l i in (
+      λ m. or-true (eqb i (f a)) (memb i (map f l)) m (λ e. inl (eqb-true i (f a) e)) (λ e. inr (r .0 e)),
+      λ e. ⊎-elim (λ k. or-left (eqb i (f a)) (memb i (map f l)) (eq-eqb i (f a) k)) (λ k. or-right (eqb i (f a)) (memb i (map f l)) (r .1 k)) e,
+    )
+
+-- images of lists joined
+map-flat : {A B C : Type 0} (g : B → C) (f : A → List B) (l : List A) → map g (flat f l) ≡ flat (λ a. map g (f a)) l
+map-flat g f [] = refl
+map-flat g f (a ∷ l) = map-append g (f a) (flat f l) ∙ ap (λ m. map g (f a) ++ m) (map-flat g f l)
+
+flat-one : {A : Type 0} (l : List A) → flat (λ a. a ∷ []) l ≡ l
+flat-one [] = refl
+flat-one (a ∷ l) = ap (λ m. a ∷ m) (flat-one l)
+
+-- FINAL WRITES
+
+-- where a test of some fails it fails everywhere, and where it holds it holds somewhere
+none-at : {A : Type 0} (f : A → Bool) (l : List A) (z : A) → any f l ≡ false → (b : ℕ) → b < length l → f (getD l b z) ≡ false
+none-at f [] z h b lt = absurd (omega arith)
+none-at f (y ∷ l) z h zero lt = or-false (f y) (any f l) h .0
+none-at f (y ∷ l) z h (suc b) lt = none-at f l z (or-false (f y) (any f l) h .1) b (omega arith)
+
+some-at : {A : Type 0} (f : A → Bool) (l : List A) (z : A) → any f l ≡ true → (b : ℕ) × (b < length l) × (f (getD l b z) ≡ true)
+some-at f [] z h = clash {b = false} h refl
+some-at f (y ∷ l) z h = or-true (f y) (any f l) h
+    (λ e. (zero, omega arith, e))
+    (λ e. let k = some-at f l z e in (suc (k .0), omega (arith, k .1), k .2))
+
+-- a later write of w's row
+abbrev later : Write → List Write → Bool
+later w ws = any (λ v. eqb (v .row .0) (w .row .0)) ws
+
+-- the places of the final writes
+abbrev finalPlaces : List Write → List ℕ
+finalPlaces [] = []
+finalPlaces (w ∷ ws) = let r = map suc (finalPlaces ws) in cond (later w ws) r (zero ∷ r)
+
+-- one place further
+up-eqb : (i y : ℕ) → eqb (suc i) (suc y) ≡ eqb i y
+up-eqb i y = iff (eqb (suc i) (suc y)) (eqb i y)
+    (λ e. let q = eqb-true (suc i) (suc y) e in eq-eqb i y (omega arith))
+    (λ e. let q = eqb-true i y e in eq-eqb (suc i) (suc y) (omega arith))
+
+up-mem : (l : List ℕ) (i : ℕ) → memb (suc i) (map suc l) ≡ memb i l
+up-mem [] i = refl
+up-mem (y ∷ l) i = rw (up-eqb i y, up-mem l i)
+
+up-zero : (l : List ℕ) → memb zero (map suc l) ≡ false
+up-zero [] = refl
+up-zero (y ∷ l) = rw (ne-eqb zero (suc y) (λ q. absurd (omega arith))) (up-zero l)
+
+up-rising : (lo : ℕ) (l : List ℕ) → rising lo l ≡ true → rising (suc lo) (map suc l) ≡ true
+up-rising lo [] h = refl
+up-rising lo (y ∷ l) h =
+    let a = and-true (leb lo y) (rising (suc y) l) h in
+    and-both (leb (suc lo) (suc y)) (rising (suc (suc y)) (map suc l)) (le-leb (suc lo) (suc y) (omega (arith, leb-true lo y (a .0))))
+    (up-rising (suc y) l (a .1))
+
+up-writes : (w : Write) (ws : List Write) (l : List ℕ) → map (λ a. getD (w ∷ ws) a noWrite) (map suc l) ≡ map (λ a. getD ws a noWrite) l
+up-writes w ws [] = refl
+up-writes w ws (y ∷ l) = ap (λ m. getD ws y noWrite ∷ m) (up-writes w ws l)
+
+places-rise : (ws : List Write) → rising zero (finalPlaces ws) ≡ true
+places-rise [] = refl
+places-rise (w ∷ ws) =
+    let r = up-rising zero (finalPlaces ws) (places-rise ws) in
+    by (later w ws)
+    (λ e. rw e (rising-less 0 1 (map suc (finalPlaces ws)) (omega arith) r))
+    (λ e. rw e (and-both (leb 0 0) (rising 1 (map suc (finalPlaces ws))) (le-leb 0 0 (omega arith)) r))
+
+places-writes : (ws : List Write) → finalWrites ws ≡ map (λ a. getD ws a noWrite) (finalPlaces ws)
+places-writes [] = refl
+places-writes (w ∷ ws) =
+    let r = places-writes ws ∙ sym (up-writes w ws (finalPlaces ws)) in
+    by (later w ws) (λ e. rw e r) (λ e. rw e (ap (λ m. w ∷ m) r))
+
+-- the first place, and the others
+first-final : (w : Write) (ws : List Write) → (later w ws ≡ false) ↔ FinalAt (w ∷ ws) zero
+first-final w ws = (
+  λ e. (omega arith, λ b. elim b [
+    | zero ↦ λ lt lb. absurd (omega arith)
+    | suc b ↦ λ lt lb q. eqb-false _ _ (none-at (λ v. eqb (v .row .0) (w .row .0)) ws noWrite e b (omega arith)) q
+  ]),
+  λ h. by (later w ws)
+      (λ e. let k = some-at (λ v. eqb (v .row .0) (w .row .0)) ws noWrite e in
+      absurd (h .1 (suc (k .0)) (omega arith) (omega (arith, k .1)) (eqb-true _ _ (k .2))))
+      (λ e. e),
+)
+
+next-final : (w : Write) (ws : List Write) (a : ℕ) → FinalAt ws a ↔ FinalAt (w ∷ ws) (suc a)
+next-final w ws a = (
+  λ h. (omega (arith, h .0), λ b. elim b [ zero ↦ λ lt lb. absurd (omega arith) | suc b ↦ λ lt lb. h .1 b (omega arith) (omega arith) ]),
+  λ h. (omega (arith, h .0), λ b lt lb. h .1 (suc b) (omega arith) (omega arith)),
+)
+
+places-members : (ws : List Write) (i : ℕ) → (memb i (finalPlaces ws) ≡ true) ↔ FinalAt ws i
+places-members [] i = (λ m. clash {b = false} m refl, λ h. absurd (omega (arith, h .0)))
+places-members (w ∷ ws) zero =
+    let f = first-final w ws in
+    by (later w ws)
+    (λ e. rw e (λ m. clash m (up-zero (finalPlaces ws)), λ h. clash e (f .1 h)))
+    (λ e. rw e (λ m. f .0 e, λ h. mem-here zero (map suc (finalPlaces ws))))
+places-members (w ∷ ws) (suc i) =
+    let n = next-final w ws i in
+    let r = places-members ws i in
+    by (later w ws)
+    (λ e. rw (e, up-mem (finalPlaces ws) i) (λ m. n .0 (r .0 m), λ h. r .1 (n .1 h)))
+    (λ e. rw (e, ne-eqb (suc i) zero (λ q. absurd (omega arith)), up-mem (finalPlaces ws) i) (λ m. n .0 (r .0 m), λ h. r .1 (n .1 h)))
+
+-- "Final writes are those with no later write of their row, in list order."
+pub finals-say : (x : Tx) → FinalWrites (writesOf x) (finals x)
+unfolding finals
+finals-say x =
+    let ws = writesOf x in
+    record {
+      places = finalPlaces ws;
+      exactly = record { rises = rises zero (finalPlaces ws) (places-rise ws); members = places-members ws };
+      writes = places-writes ws;
+    }
+
+-- CHANGES
+
+module _ (S : Store) where
+  -- two values are the same
+  same-says : (p q : ℕ) → (sameValue (valueAt (S .key) (S .has) p) (valueAt (S .key) (S .has) q) ≡ true) ↔ SameAt S p q
+  same-says p q = by (getD (S .has) p false)
+      (λ hp. by (getD (S .has) q false)
+      (λ hq. rw (hp, hq) (
+        λ e. inr (getD (S .key) p 0, (refl, refl), (refl, sym (eqb-true (getD (S .key) p 0) (getD (S .key) q 0) e))),
+        λ e. ⊎-elim (λ n. clash {b = true} refl (n .0)) (λ k. eq-eqb (getD (S .key) p 0) (getD (S .key) q 0) (k .1 .1 ∙ sym (k .2 .1))) e,
+      ))
+      (λ hq. rw (hp, hq) (
+        λ e. clash {b = false} e refl,
+        λ e. ⊎-elim (λ n. clash {b = true} refl (n .0)) (λ k. clash {b = false} (k .2 .0) refl) e,
+      )))
+      (λ hp. by (getD (S .has) q false)
+      (λ hq. rw (hp, hq) (
+        λ e. clash {b = false} e refl,
+        λ e. ⊎-elim (λ n. clash {b = true} refl (n .1)) (λ k. clash {b = false} (k .1 .0) refl) e,
+      ))
+      (λ hq. rw (hp, hq) (λ e. inl (refl, refl), λ e. refl)))
+
+  -- a write's two values, as the definition compares them
+  abbrev unchanged : Write → Bool
+  unchanged w = sameValue (valueAt (S .key) (S .has) (w .base .0)) (valueAt (S .key) (S .has) (w .new .0))
+
+  differs : (w : Write) → unchanged w ≡ false → Changes S w
+  differs w e s = clash (same-says (w .base .0) (w .new .0) .1 s) e
+
+  -- "(none for 0 or a free slot)"
+  pub none-says : slotsInForm S ≡ true → NoneForFree S
+  none-says h =
+      let f = slots-parts S h in
+      let free = blank-at (λ x. ltb 0 x) not 0 false (λ b e. not-true b e) (S .xmin) (S .has) (f .has) in
+      record {
+        null = free 0 (not-true _ (f .first));
+        free = λ p e. free p (rw e);
+      }
+
+  value-is : (p : ℕ) → ValueIs S p (valueAt (S .key) (S .has) p)
+  value-is p = record { key = λ k h. rw (h .0, h .1); none = λ h. rw h }
+
+  -- what changes give, one after the other
+  in-turn : {A : Type 0} (f : Change → List A) (P : Write → List A → Type 0)
+      → ((w : Write) → unchanged w ≡ true → P w []) → ((w : Write) → unchanged w ≡ false → P w (f (changeOf (S .key) (S .has) w)))
+      → (ws : List Write) → InTurn P ws (flat f (indexChanges (S .key) (S .has) ws))
+  unfolding indexChanges
+  in-turn f P s d [] = refl
+  in-turn f P s d (w ∷ ws) =
+      let r = in-turn f P s d ws in
+      by (unchanged w)
+      (λ e. rw e ([], flat f (indexChanges (S .key) (S .has) ws), refl, s w e, r))
+      (λ e. rw e (f (changeOf (S .key) (S .has) w), flat f (indexChanges (S .key) (S .has) ws), refl, d w e, r))
+
+  -- "A change exists where the base's value (none for 0 or a free slot) differs from the new one."; "Changes .. go in final-write order"
+  pub changes-say : (x : Tx) → InTurn (ChangesOf S) (finals x) (changes S x)
+  unfolding changes
+  changes-say x =
+      rw (flat-one (indexChanges (S .key) (S .has) (finals x))) at (in-turn (λ c. c ∷ []) (ChangesOf S)
+      (λ w e. record { one = λ d. absurd (d (same-says (w .base .0) (w .new .0) .0 e)); same = λ _. refl })
+      (λ w e. record {
+        one = λ _. (changeOf (S .key) (S .has) w, refl, refl, value-is (w .base .0), value-is (w .new .0));
+        same = λ s. absurd (differs w e s);
+      })
+      (finals x))
+
+  -- the postings of one side
+  posts-none : {A : Type 0} (side : Write → ℕ) (f : ℕ → A) (w : Write) → unchanged w ≡ true → PostsOf S side f w []
+  posts-none side f w e = record { key = λ k d h. absurd (d (same-says (w .base .0) (w .new .0) .0 e)); none = λ _. refl; same = λ _. refl }
+
+  posts-one : {A : Type 0} (side : Write → ℕ) (f : ℕ → A) (w : Write) → unchanged w ≡ false
+      → PostsOf S side f w (map f (postingIn (w .row .0) (valueAt (S .key) (S .has) (side w))))
+  posts-one side f w e = record { key = λ k d h. rw (h .0, h .1); none = λ h. rw h; same = λ s. absurd (differs w e s) }
+
+  -- step 15 puts in the new value's posting, step 17 takes out the base's, in final-write order
+  pub insertions-say : (x : Tx) → PutsIn S putInsert (finals x) (insertions S x)
+  unfolding insertions destinations changes
+  insertions-say x =
+      rw (← map-flat putInsert (λ c. postingIn (c .row) (c .after)) (indexChanges (S .key) (S .has) (finals x))) at
+      (in-turn (λ c. map putInsert (postingIn (c .row) (c .after))) (PostsOf S (λ w. w .new .0) putInsert)
+      (posts-none (λ w. w .new .0) putInsert) (posts-one (λ w. w .new .0) putInsert) (finals x))
+
+  pub removals-say : (x : Tx) → TakesOut S putRemove (finals x) (removals S x)
+  unfolding removals sources changes
+  removals-say x =
+      rw (← map-flat putRemove (λ c. postingIn (c .row) (c .before)) (indexChanges (S .key) (S .has) (finals x))) at
+      (in-turn (λ c. map putRemove (postingIn (c .row) (c .before))) (PostsOf S (λ w. w .base .0) putRemove)
+      (posts-none (λ w. w .base .0) putRemove) (posts-one (λ w. w .base .0) putRemove) (finals x))
