@@ -1,14 +1,14 @@
 -- "Steps and faults": final writes, changes, guards, publication, recycling, stamps; what is in each list, and in which order.
 use mathlib.Core.Path.{_≡_, refl, sym, ap, _∙_}
 use mathlib.Core.Bool.{Bool, true, false, not, cond, _&&_, _||_}
-use mathlib.Core.List.{List, [], _∷_, _++_, map, reverse, reverse-cons, map-append}
+use mathlib.Core.List.{List, [], _∷_, _++_, map, reverse, reverse-cons, map-append, append-nil}
 use mathlib.Core.Logic.{_≢_, _⊎_, inl, inr, ⊎-elim, _↔_}
 use Prim.Native.Nat.{ℕ, zero, suc, _+_, _-_, _<_, _≤_, _%_}
 use native.Mathlib.Omega.{arith}
 use lib.ListN.{length, getD, take, length-append, length-reverse, List·getD-append}
 use lib.Seq.{getD-append-seam}
 use lib.Dec.{eqb, ltb, leb}
-use borrow.Author.Tests.{eqb-true, eqb-false, eq-eqb, ne-eqb, ltb-true, lt-ltb, leb-true, le-leb, not-true, not-false}
+use borrow.Author.Tests.{eqb-true, eqb-false, eq-eqb, ne-eqb, ltb-true, ltb-false, lt-ltb, leb-true, le-leb, not-true, not-false}
 use Rattle.records.specs.Limits.{stripes}
 use Rattle.records.specs.Zero.{noWrite}
 use Rattle.rules.specs.Lists.{any, those, flat, nonzeroFrom, memb, rising, inOrder}
@@ -26,7 +26,7 @@ use Rattle.statements.specs.Sized.{Sized}
 use Rattle.statements.specs.Words.{Some}
 use Rattle.statements.specs.StepWords.{Rises, Exactly, OneEach, InTurn, Reversed, FinalAt, FinalWrites, HasKey, HasNone, SameAt, Changes, ValueIs, NoneForFree}
 use Rattle.statements.specs.StepWords.{ChangesOf, PostsOf, PutsIn, TakesOut, ChangedStripe, GuardedStripe, GuardedPartition, LetsGo, PublishesOne, Publishes}
-use Rattle.statements.specs.StepWords.{Leads, OnChain, OffChainOf, Recycled, FreesAndDrops, RollsBack}
+use Rattle.statements.specs.StepWords.{Leads, here, along, OnChain, OffChainOf, Recycled, FreesAndDrops, RollsBack}
 use Rattle.basic_laws.specs.Cases.{by, clash, iff, or-true, or-false, or-left, or-right, and-true, and-both, mem-here, mem-there}
 use Rattle.basic_laws.specs.Members.{at-mem, mem-those, mem-nonzero}
 use Rattle.basic_laws.specs.Rising.{rising-less, rising-from, mem-inOrder, rising-inOrder}
@@ -285,3 +285,257 @@ module _ (S : Store) where
       rw (← map-flat putRemove (λ c. postingIn (c .row) (c .before)) (indexChanges (S .key) (S .has) (finals x))) at
       (in-turn (λ c. map putRemove (postingIn (c .row) (c .before))) (PostsOf S (λ w. w .base .0) putRemove)
       (posts-none (λ w. w .base .0) putRemove) (posts-one (λ w. w .base .0) putRemove) (finals x))
+
+  -- the postings themselves, of which rollback takes out those that were put in
+  pub destinations-say : (x : Tx) → PutsIn S (λ c. c) (finals x) (destinations (changes S x))
+  unfolding destinations changes
+  destinations-say x =
+      in-turn (λ c. postingIn (c .row) (c .after)) (PostsOf S (λ w. w .new .0) (λ c. c)) (posts-none (λ w. w .new .0) (λ c. c))
+      (λ w e. record { key = λ k d h. rw (h .0, h .1); none = λ h. rw h; same = λ s. absurd (differs w e s) }) (finals x)
+
+  -- GUARDS AND STAMPS
+
+  -- the stripe of a key at p
+  stripe-says : (p i : ℕ) → (memb i (stripesIn (valueAt (S .key) (S .has) p)) ≡ true) ↔ ((k : ℕ) × HasKey S p k × (i ≡ k % stripes))
+  stripe-says p i = by (getD (S .has) p false)
+      (λ e. rw e (
+        λ m. (
+          getD (S .key) p 0,
+          (refl, refl),
+          or-true (eqb i (getD (S .key) p 0 % stripes)) false m (λ q. eqb-true i (getD (S .key) p 0 % stripes) q) (λ q. clash {b = false} q refl),
+        ),
+        λ h. or-left (eqb i (getD (S .key) p 0 % stripes)) false (eq-eqb i (getD (S .key) p 0 % stripes) (rw (h .1 .1) (h .2))),
+      ))
+      (λ e. rw e (λ m. clash {b = false} m refl, λ h. clash {b = false} (h .1 .0) refl))
+
+  sides-say : (p q i : ℕ)
+      → (memb i (stripesIn (valueAt (S .key) (S .has) p) ++ stripesIn (valueAt (S .key) (S .has) q)) ≡ true)
+      ↔ ((k : ℕ) × (HasKey S p k ⊎ HasKey S q k) × (i ≡ k % stripes))
+  sides-say p q i =
+      let e = mem-either (stripesIn (valueAt (S .key) (S .has) p)) (stripesIn (valueAt (S .key) (S .has) q)) i in (
+        λ m. ⊎-elim
+            (λ k. let h = stripe-says p i .0 k in (h .0, inl (h .1), h .2))
+            (λ k. let h = stripe-says q i .0 k in (h .0, inr (h .1), h .2)) (e .0 m),
+        λ h. e .1 (⊎-elim (λ k. inl (stripe-says p i .1 (h .0, k, h .2))) (λ k. inr (stripe-says q i .1 (h .0, k, h .2))) (h .1)),
+      )
+
+  -- of the changes of some writes
+  abbrev touched : Change → List ℕ
+  touched c = stripesIn (c .before) ++ stripesIn (c .after)
+
+  stripes-say : (ws : List Write) (i : ℕ)
+      → (memb i (flat touched (indexChanges (S .key) (S .has) ws)) ≡ true)
+      ↔ Some (λ w. Changes S w × ((k : ℕ) × (HasKey S (w .base .0) k ⊎ HasKey S (w .new .0) k) × (i ≡ k % stripes))) ws
+  unfolding indexChanges
+  stripes-say [] i = (λ m. clash {b = false} m refl, λ e. absurd e)
+  stripes-say (w ∷ ws) i =
+      let r = stripes-say ws i in
+      let here = sides-say (w .base .0) (w .new .0) i in
+      let both = mem-either (touched (changeOf (S .key) (S .has) w)) (flat touched (indexChanges (S .key) (S .has) ws)) i in
+      by (unchanged w)
+      (λ e. rw e (
+        λ m. inr (r .0 m),
+        λ h. ⊎-elim (λ k. absurd (k .0 (same-says (w .base .0) (w .new .0) .0 e))) (λ k. r .1 k) h,
+      ))
+      (λ e. rw e (
+        λ m. ⊎-elim (λ k. inl (differs w e, here .0 k)) (λ k. inr (r .0 k)) (both .0 m),
+        λ h. both .1 (⊎-elim (λ k. inl (here .1 (k .1))) (λ k. inr (r .1 k)) h),
+      ))
+
+  -- the stripes of changed keys, rising
+  pub changed-stripes-say : (x : Tx) → Exactly (ChangedStripe S x) (changedStripes (changes S x))
+  unfolding changedStripes changes
+  changed-stripes-say x =
+      let l = flat touched (indexChanges (S .key) (S .has) (finals x)) in
+      record { rises = rises 0 (inOrder l) (rising-inOrder l); members = λ i. rw (mem-inOrder l i) (stripes-say (finals x) i) }
+
+  -- "Guards: stripes of changed keys, both sides, and of index reads; .. rising"
+  pub guarded-stripes-say : (x : Tx) → Exactly (GuardedStripe S x) (guardedStripes (changes S x) x)
+  unfolding guardedStripes
+  guarded-stripes-say x =
+      let a = changedStripes (changes S x) in
+      let b = map (λ e. e .stripe) (indexReadsOf x) in
+      let c = changed-stripes-say x in
+      let s = some-map (λ e. e .stripe) (indexReadsOf x) in
+      record {
+        rises = rises 0 (inOrder (a ++ b)) (rising-inOrder (a ++ b));
+        members = λ i. rw (mem-inOrder (a ++ b) i) (
+          λ m. ⊎-elim (λ k. inl (c .members i .0 k)) (λ k. inr (s i .0 k)) (mem-either a b i .0 m),
+          λ h. mem-either a b i .1 (⊎-elim (λ k. inl (c .members i .1 k)) (λ k. inr (s i .1 k)) h),
+        );
+      }
+
+  pub index-guards-say : (x : Tx) (t : ℕ) → OneEach (GuardedStripe S x) (λ i. putStripe i t) (indexGuards S x t)
+  unfolding indexGuards
+  index-guards-say x t = record { places = guardedStripes (changes S x) x; exactly = guarded-stripes-say x; puts = refl }
+
+  -- "Stamps are the txid, on changed stripes only."; "stamps rising"
+  pub stamps-say : (x : Tx) → OneEach (ChangedStripe S x) (λ i. putStamp i (x .txid .0)) (stamping S x)
+  unfolding stamping
+  stamps-say x = record { places = changedStripes (changes S x); exactly = changed-stripes-say x; puts = refl }
+
+-- "partitions of written and read rows; rising"
+pub guarded-partitions-say : (x : Tx) → Exactly (GuardedPartition x) (guardedPartitions x)
+unfolding guardedPartitions
+guarded-partitions-say x =
+    let a = map (λ w. partitionOf (w .row .0)) (writesOf x) in
+    let b = map (λ e. partitionOf (e .row .0)) (readsOf x) in
+    let s = some-map (λ w. partitionOf (w .row .0)) (writesOf x) in
+    let r = some-map (λ e. partitionOf (e .row .0)) (readsOf x) in
+    record {
+      rises = rises 0 (inOrder (a ++ b)) (rising-inOrder (a ++ b));
+      members = λ i. rw (mem-inOrder (a ++ b) i) (
+        λ m. ⊎-elim (λ k. inl (s i .0 k)) (λ k. inr (r i .0 k)) (mem-either a b i .0 m),
+        λ h. mem-either a b i .1 (⊎-elim (λ k. inl (s i .1 k)) (λ k. inr (r i .1 k)) h),
+      );
+    }
+
+pub partition-guards-say : (x : Tx) (t : ℕ) → OneEach (GuardedPartition x) (λ i. putPartition i t) (partitionGuards x t)
+unfolding partitionGuards
+partition-guards-say x t = record { places = guardedPartitions x; exactly = guarded-partitions-say x; puts = refl }
+
+-- "released partition first"
+pub release-says : (S : Store) (x : Tx) → LetsGo S x (release S x)
+unfolding release
+release-says S x = record {
+  partition = partitionGuards x 0;
+  index = indexGuards S x 0;
+  first = partition-guards-say x 0;
+  then = index-guards-say S x 0;
+  both = refl;
+}
+
+-- PUBLICATION
+
+-- "Publishing marks a nonzero base's xmax, then moves the head."
+publishes-one : (t : ℕ) (w : Write) → PublishesOne t w (publishOne t w)
+unfolding publishOne
+publishes-one t w = record { based = λ n. rw (ne-eqb (w .base .0) 0 n); unbased = λ e. rw (eq-eqb (w .base .0) 0 e) }
+
+publishes : (t : ℕ) (ws : List Write) → Publishes t ws (flat (publishOne t) ws)
+publishes t [] = refl
+publishes t (w ∷ ws) = (publishOne t w, flat (publishOne t) ws, refl, publishes-one t w, publishes t ws)
+
+-- .. "in final-write order"
+pub publication-says : (x : Tx) → Publishes (x .txid .0) (finals x) (publication x)
+unfolding publication
+publication-says x = publishes (x .txid .0) (finals x)
+
+-- OFF-CHAIN SLOTS
+
+-- a chain's slots are those that its start leads to
+leads-on : (next l : List ℕ) {p q : ℕ} → Leads next p q → IsChain next p l → memb q l ≡ true
+leads-on next [] (here pos) c = absurd (omega arith)
+leads-on next [] (along pos h) c = absurd (omega arith)
+leads-on next (x ∷ l) (here pos) c = rw (c .0) (mem-here x l)
+leads-on next (x ∷ l) {q = q} (along pos h) c = mem-there q x l (leads-on next l h (rw (c .0) (c .3)))
+
+on-leads : (next l : List ℕ) (p q : ℕ) → IsChain next p l → memb q l ≡ true → Leads next p q
+on-leads next [] p q c m = clash {b = false} m refl
+on-leads next (x ∷ l) p q c m = or-true (eqb q x) (memb q l) m
+    (λ e. rw (c .0, eqb-true q x e) (here (c .1)))
+    (λ e. rw (c .0) (along (c .1) (on-leads next l (getD next x 0) q (c .3) e)))
+
+module _ (S : Store) (z : Sized S) (ok : repairable S ≡ true) where
+  -- the marks of the walk are the slots on chains
+  on-chain-is : (p : ℕ) → (on (walk (S .heads) (S .next) .seen) p ≡ true) ↔ OnChain S p
+  on-chain-is p =
+      let w = walk-sound (S .heads) (S .next) (z .next) (repairable-parts S ok .walked) in
+      let L = w .0 in
+      let c = w .1 in (
+        λ m. let f = c .found p m in
+        (f .0, omega (arith, f .1, z .heads), on-leads (S .next) (L (f .0)) (getD (S .heads) (f .0) 0) p (c .stand .chain (f .0) (f .1)) (f .2)),
+        λ h. let lt : h .0 < length (S .heads) = omega (arith, h .1, z .heads) in
+        c .marked (h .0) p lt (leads-on (S .next) (L (h .0)) (h .2) (c .stand .chain (h .0) lt)),
+      )
+
+  -- used, the txid's, on no chain
+  own-members : (t p : ℕ) → (memb p (ownSlots (S .heads) (S .next) (S .xmin) t) ≡ true) ↔ OffChainOf S t p
+  unfolding ownSlots
+  own-members t p =
+      let seen = walk (S .heads) (S .next) .seen in
+      let f : ℕ → Bool = λ q. eqb (getD (S .xmin) q 0) t && not (on seen q) in
+      let is : memb p (those f (usedSlots (S .xmin))) ≡ (ltb 0 (getD (S .xmin) p 0) && f p) =
+      mem-those f (usedSlots (S .xmin)) p ∙ rw (mem-nonzero (S .xmin) p) in (
+        λ m. let a = and-true (ltb 0 (getD (S .xmin) p 0)) (f p) (sym is ∙ m) in
+        let b = and-true (eqb (getD (S .xmin) p 0) t) (not (on seen p)) (a .1) in
+        record {
+          used = ltb-true 0 (getD (S .xmin) p 0) (a .0);
+          mine = eqb-true (getD (S .xmin) p 0) t (b .0);
+          off = λ c. clash (on-chain-is p .1 c) (not-true (on seen p) (b .1));
+        },
+        λ o. let off : on seen p ≡ false = by (on seen p) (λ e. absurd (o .off (on-chain-is p .0 e))) (λ e. e) in
+        is ∙ rw (off, eq-eqb (getD (S .xmin) p 0) t (o .mine), lt-ltb 0 (getD (S .xmin) p 0) (o .used)),
+      )
+
+  own-rise : (t : ℕ) → rising 0 (ownSlots (S .heads) (S .next) (S .xmin) t) ≡ true
+  unfolding ownSlots
+  own-rise t = rising-those 0 _ (usedSlots (S .xmin)) (rising-nonzero 0 (S .xmin))
+
+  own-say : (t : ℕ) → Exactly (OffChainOf S t) (ownSlots (S .heads) (S .next) (S .xmin) t)
+  own-say t = record { rises = rises 0 (ownSlots (S .heads) (S .next) (S .xmin) t) (own-rise t); members = own-members t }
+
+  -- "Abort frees, rising, every off-chain slot of the txid, then drops it from the active list"
+  pub abort-says : (t : ℕ) → FreesAndDrops S t (abortPuts S t)
+  unfolding abortPuts
+  abort-says t =
+      let own = ownSlots (S .heads) (S .next) (S .xmin) t in
+      record { frees = map putFree own; first = record { places = own; exactly = own-say t; puts = refl }; then = refl }
+
+  -- "Recycling frees the txid's other off-chain slots."; "recycling .. rising"
+  pub recycling-says : (x : Tx) → OneEach (Recycled S x) putFree (recycling S x)
+  unfolding recycling recycled
+  recycling-says x =
+      let own = ownSlots (S .heads) (S .next) (S .xmin) (x .txid .0) in
+      let news = map (λ w. w .new .0) (finals x) in
+      let f : ℕ → Bool = λ p. not (memb p news) in
+      let s = some-map (λ (w : Write). w .new .0) (finals x) in
+      record {
+        places = those f own;
+        exactly = record {
+          rises = rises 0 (those f own) (rising-those 0 f own (own-rise (x .txid .0)));
+          members = λ p. rw (mem-those f own p) (
+            λ m. let a = and-true (memb p own) (f p) m in
+            (own-members (x .txid .0) p .0 (a .0), λ h. clash (s p .1 (some-turn (finals x) p h)) (not-true (memb p news) (a .1))),
+            λ h. and-both (memb p own) (f p) (own-members (x .txid .0) p .1 (h .0))
+                (by (memb p news) (λ e. absurd (h .1 (turn-some (finals x) p (s p .0 e)))) (λ e. rw e)),
+          );
+        };
+        puts = refl;
+      }
+    where
+      some-turn : (ws : List Write) (p : ℕ) → Some (λ w. w .new .0 ≡ p) ws → Some (λ w. p ≡ w .new .0) ws
+      some-turn [] p h = h
+      some-turn (w ∷ ws) p h = ⊎-elim (λ e. inl (sym e)) (λ k. inr (some-turn ws p k)) h
+
+      turn-some : (ws : List Write) (p : ℕ) → Some (λ w. p ≡ w .new .0) ws → Some (λ w. w .new .0 ≡ p) ws
+      turn-some [] p h = h
+      turn-some (w ∷ ws) p h = ⊎-elim (λ e. inl (sym e)) (λ k. inr (turn-some ws p k)) h
+
+-- ROLLBACK
+
+-- `reverse`: the last first
+reversed : (l : List ℕ) → Reversed l (reverse l)
+reversed l = record { long = length-reverse l; turned = turned l }
+  where
+    turned : (l : List ℕ) (i : ℕ) → i < length l → getD (reverse l) i 0 ≡ getD l (length l - suc i) 0
+    turned [] i lt = absurd (omega arith)
+    turned (x ∷ l) i lt = by (ltb i (length l))
+        (λ e. let k = ltb-true i (length l) e in
+        let far : suc (length l) - suc i ≡ suc (length l - suc i) = omega arith in
+        rw (reverse-cons x l, far) (List·getD-append (reverse l) (x ∷ []) 0 i (omega (arith, length-reverse l)) ∙ turned l i k))
+        (λ e. let k : i ≡ length (reverse l) = omega (arith, ltb-false i (length l) e, length-reverse l) in
+        let near : suc (length l) - suc i ≡ 0 = omega (arith, length-reverse l) in
+        rw (reverse-cons x l, near, k) (getD-append-seam (reverse l) x [] 0))
+
+-- "rollback in reverse"; the part that makes stores of step 24
+pub rollback-says : (S : Store) (x : Tx) (logged : Bool) (plan : Schedule) (already : Bool) (made : List ℕ)
+    → RollsBack made already (fails S x logged plan 24) (count S x logged plan 24) (rollback S x logged plan already made .puts)
+unfolding rollback
+rollback-says S x logged plan already made = record {
+  back = reverse made;
+  reversed = reversed made;
+  all = λ f. rw f;
+  some = λ f a. rw (f, a);
+  poisoned = λ f a. rw (f, a) (append-nil (take (count S x logged plan 24) (map putRemove (reverse made))));
+}

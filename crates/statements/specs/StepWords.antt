@@ -151,7 +151,7 @@ Publishes t ws ps = InTurn (PublishesOne t) ws ps
 -- from slot p along the next pointers, never over 0
 pub data Leads (next : List ℕ) : ℕ → ℕ → Type 0 where
   here : {p : ℕ} → 0 < p → Leads next p p
-  on : {p q : ℕ} → 0 < p → Leads next (getD next p 0) q → Leads next p q
+  along : {p q : ℕ} → 0 < p → Leads next (getD next p 0) q → Leads next p q
 
 -- on some row's chain
 abbrev pub OnChain : Store → ℕ → Type 0
