@@ -21,13 +21,15 @@ use Rattle.rules.specs.Puts.{Put, putStripe, putPartition, putInsert, putRemove
 use Rattle.rules.specs.Changes.{Change, changeOf, indexChanges, changes, postingIn, destinations, sources, stripesIn, changedStripes, guardedStripes}
 use Rattle.rules.specs.Changes.{guardedPartitions, indexGuards, partitionGuards, release, publishOne, insertions, removals, publication, recycled, recycling}
 use Rattle.rules.specs.Changes.{stamping}
-use Rattle.rules.specs.Commit.{fails, count, rollback}
+use Rattle.rules.specs.Faults.{F, B, P}
+use Rattle.rules.specs.Commit.{End, stopIf, strikes, fails, count, rollback, indexChangesMade, indexLockKeys, prepareCommitRecord, runPrepare}
+use Rattle.rules.specs.Commit.{acquireIndexLocks, acquirePartitionLocks, steps, run}
 use Rattle.statements.specs.Sized.{Sized}
 use Rattle.statements.specs.Words.{Some}
 use Rattle.statements.specs.StepWords.{Rises, Exactly, OneEach, InTurn, Reversed, FinalAt, FinalWrites, HasKey, HasNone, SameAt, Changes, ValueIs, NoneForFree}
-use Rattle.statements.specs.StepWords.{ChangesOf, PostsOf, PutsIn, TakesOut, ChangedStripe, GuardedStripe, GuardedPartition, LetsGo, PublishesOne, Publishes}
+use Rattle.statements.specs.StepWords.{ChangesOf, PostsOf, PutsIn, TakesOut, ChangedStripe, GuardedStripe, GuardedPartition, Takes, LetsGo, PublishesOne, Publishes}
 use Rattle.statements.specs.StepWords.{Leads, here, along, OnChain, OffChainOf, Recycled, FreesAndDrops, RollsBack}
-use Rattle.basic_laws.specs.Cases.{by, clash, iff, or-true, or-false, or-left, or-right, and-true, and-both, mem-here, mem-there}
+use Rattle.basic_laws.specs.Cases.{by, clash, iff, or-true, or-false, or-left, or-right, and-true, and-false, and-both, mem-here, mem-there}
 use Rattle.basic_laws.specs.Members.{at-mem, mem-those, mem-nonzero}
 use Rattle.basic_laws.specs.Rising.{rising-less, rising-from, mem-inOrder, rising-inOrder}
 use Rattle.basic_laws.specs.Places.{blank-at}
@@ -539,3 +541,33 @@ rollback-says S x logged plan already made = record {
   some = λ f a. rw (f, a);
   poisoned = λ f a. rw (f, a) (append-nil (take (count S x logged plan 24) (map putRemove (reverse made))));
 }
+
+-- STEPS 7 AND 8
+
+-- "rising, taken index first": what a run has stored when it has passed the first eight steps
+pub taking-says : (S : Store) (x : Tx) (logged : Bool) (plan : Schedule) (e : End)
+    → ((n c : ℕ) → n ≤ 8 → c ≢ 0 → strikes S x logged plan n c ≡ false) → Takes S x (x .txid .0) (run e (take 8 (steps S x logged plan)) .puts)
+unfolding steps stopIf indexChangesMade indexLockKeys prepareCommitRecord runPrepare acquireIndexLocks acquirePartitionLocks
+taking-says S x logged plan e h =
+    let f : (n : ℕ) → n ≤ 8 → fails S x logged plan n ≡ false = λ n le. h n F le (λ q. absurd (omega arith)) in
+    let none : (n c : ℕ) → n ≤ 8 → 0 < c → strikes S x logged plan n c ≡ false = λ n c le lt. h n c le (λ q. absurd (omega arith)) in
+    rw (
+      f 3 (omega arith),
+      f 4 (omega arith),
+      f 5 (omega arith),
+      and-false logged,
+      f 6 (omega arith),
+      and-false logged,
+      none 6 P (omega arith) (omega arith),
+      and-false logged,
+      f 7 (omega arith),
+      none 7 B (omega arith) (omega arith),
+      f 8 (omega arith),
+      none 8 B (omega arith) (omega arith),
+    ) (record {
+      index = indexGuards S x (x .txid .0);
+      partition = partitionGuards x (x .txid .0);
+      first = index-guards-say S x (x .txid .0);
+      then = partition-guards-say x (x .txid .0);
+      both = ap (λ m. indexGuards S x (x .txid .0) ++ m) (append-nil (partitionGuards x (x .txid .0)));
+    })
