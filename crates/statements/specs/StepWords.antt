@@ -9,11 +9,13 @@ use lib.ListN.{length, getD, take, drop}
 use Rattle.records.specs.Limits.{rows, stripes, partitions}
 use Rattle.records.specs.Zero.{noWrite}
 use Rattle.rules.specs.Lists.{memb}
-use Rattle.rules.specs.Types.{Store, Tx, Write, Value, Absent, Key}
+use Rattle.rules.specs.Types.{Store, Tx, Schedule, Write, Value, Absent, Key, Answer}
 use Rattle.rules.specs.Store.{posting}
 use Rattle.rules.specs.Transaction.{writesOf, readsOf, indexReadsOf, finals}
 use Rattle.rules.specs.Puts.{Put, putStripe, putPartition, putRemove, putXmax, putHead, putFree, putDrop, putPoison}
-use Rattle.rules.specs.Changes.{Change}
+use Rattle.rules.specs.Changes.{Change, indexGuards, partitionGuards, insertions, removals, publication, recycling}
+use Rattle.rules.specs.Numbers.{numberOf}
+use Rattle.rules.specs.Commit.{count}
 use Rattle.statements.specs.Words.{Some}
 
 -- LISTS
@@ -183,3 +185,38 @@ pub record RollsBack (made : List ℕ) (already failed : Bool) (k : ℕ) (ps : L
   pub all : failed ≡ false → ps ≡ map putRemove back
   pub some : failed ≡ true → already ≡ false → ps ≡ take k (map putRemove back) ++ putPoison ∷ []
   pub poisoned : failed ≡ true → already ≡ true → ps ≡ take k (map putRemove back)
+
+-- STAMPS AFTER A COMMIT
+
+module _ (S : Store) (x : Tx) where
+  -- the first m of the changed stripes, rising, hold the txid; every other stamp is as it was
+  pub record Stamped (m : ℕ) (T : Store) : Type 0 where
+    pub changed : List ℕ
+    pub exactly : Exactly (ChangedStripe S x) changed
+    pub stamped : (i : ℕ) → memb i (take m changed) ≡ true → getD (T .stamps) i 0 ≡ x .txid .0
+    pub others : (i : ℕ) → memb i (take m changed) ≡ false → getD (T .stamps) i 0 ≡ getD (S .stamps) i 0
+
+  -- every changed stripe holds the txid; every other stamp is as it was
+  pub record AllStamped (T : Store) : Type 0 where
+    pub stamped : (i : ℕ) → ChangedStripe S x i → getD (T .stamps) i 0 ≡ x .txid .0
+    pub others : (i : ℕ) → (ChangedStripe S x i → ⊥) → getD (T .stamps) i 0 ≡ getD (S .stamps) i 0
+
+  -- the stores that a run has made when it has passed step 21: guards, insertions, removals, publication, recycling, and the drop
+  abbrev pub storesTo21 : ℕ
+  storesTo21 =
+      length (indexGuards S x (x .txid .0)) + length (partitionGuards x (x .txid .0)) + length (insertions S x) + length (removals S x)
+      + length (publication x) + length (recycling S x) + 1
+
+module _ (S : Store) (x : Tx) (logged : Bool) (plan : Schedule) where
+  -- "Stamps are the txid, on changed stripes only.": an answer's stamps; "22 stamp Fk": 17 leaves the first k of them
+  pub record StampsAfter (a : Answer) : Type 0 where
+    pub done : numberOf (a .refusal) ≡ 0 → AllStamped S x (a .store)
+    pub failed : numberOf (a .refusal) ≡ 17 → Stamped S x (count S x logged plan 22) (a .store)
+    pub else : numberOf (a .refusal) ≢ 0 → numberOf (a .refusal) ≢ 17 → numberOf (a .refusal) ≢ 18 → a .store .stamps ≡ S .stamps
+
+  -- a commit cut at n, T the store left: the number that it answers uncut says how far the stamps can come
+  pub record StampsCut (n : ℕ) (uncut : ℕ) (T : Store) : Type 0 where
+    pub done : uncut ≡ 0 → Stamped S x (n - storesTo21 S x) T
+    pub failed : uncut ≡ 17 → (m : ℕ) × Stamped S x m T × (m ≤ n - storesTo21 S x) × (m ≤ count S x logged plan 22)
+        × ((m ≡ n - storesTo21 S x) ⊎ (m ≡ count S x logged plan 22))
+    pub else : uncut ≢ 0 → uncut ≢ 17 → T .stamps ≡ S .stamps
