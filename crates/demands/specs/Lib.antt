@@ -4,3 +4,5 @@ pub mod Demand2
 -- histories with faults and cuts, and what meets the premises
 pub mod Struck
 pub mod Exhibits
+-- the stamps after every commit
+pub mod StampsAfter

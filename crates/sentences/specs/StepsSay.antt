@@ -27,7 +27,8 @@ use Rattle.rules.specs.Commit.{acquireIndexLocks, acquirePartitionLocks, steps,
 use Rattle.statements.specs.Sized.{Sized}
 use Rattle.statements.specs.Words.{Some}
 use Rattle.statements.specs.StepWords.{Rises, Exactly, OneEach, InTurn, Reversed, FinalAt, FinalWrites, HasKey, HasNone, SameAt, Changes, ValueIs, NoneForFree}
-use Rattle.statements.specs.StepWords.{ChangesOf, PostsOf, PutsIn, TakesOut, ChangedStripe, GuardedStripe, GuardedPartition, Takes, LetsGo, PublishesOne, Publishes}
+use Rattle.statements.specs.StepWords.{ChangesOf, PostsOf, PutsIn, TakesOut, ChangedStripe, GuardedStripe}
+use Rattle.statements.specs.StepWords.{GuardedPartition, Takes, LetsGo, PublishesOne, Publishes}
 use Rattle.statements.specs.StepWords.{Leads, here, along, OnChain, OffChainOf, Recycled, FreesAndDrops, RollsBack}
 use Rattle.basic_laws.specs.Cases.{by, clash, iff, or-true, or-false, or-left, or-right, and-true, and-false, and-both, mem-here, mem-there}
 use Rattle.basic_laws.specs.Members.{at-mem, mem-those, mem-nonzero}
@@ -158,10 +159,13 @@ places-writes (w ∷ ws) =
 -- the first place, and the others
 first-final : (w : Write) (ws : List Write) → (later w ws ≡ false) ↔ FinalAt (w ∷ ws) zero
 first-final w ws = (
-  λ e. (omega arith, λ b. elim b [
-    | zero ↦ λ lt lb. absurd (omega arith)
-    | suc b ↦ λ lt lb q. eqb-false _ _ (none-at (λ v. eqb (v .row .0) (w .row .0)) ws noWrite e b (omega arith)) q
-  ]),
+  λ e. (
+    omega arith,
+    λ b. elim b [
+      | zero ↦ λ lt lb. absurd (omega arith)
+      | suc b ↦ λ lt lb q. eqb-false _ _ (none-at (λ v. eqb (v .row .0) (w .row .0)) ws noWrite e b (omega arith)) q
+    ],
+  ),
   λ h. by (later w ws)
       (λ e. let k = some-at (λ v. eqb (v .row .0) (w .row .0)) ws noWrite e in
       absurd (h .1 (suc (k .0)) (omega arith) (omega (arith, k .1)) (eqb-true _ _ (k .2))))
@@ -446,9 +450,9 @@ module _ (S : Store) (z : Sized S) (ok : repairable S ≡ true) where
       let L = w .0 in
       let c = w .1 in (
         λ m. let f = c .found p m in
-        (f .0, omega (arith, f .1, z .heads), on-leads (S .next) (L (f .0)) (getD (S .heads) (f .0) 0) p (c .stand .chain (f .0) (f .1)) (f .2)),
+            (f .0, omega (arith, f .1, z .heads), on-leads (S .next) (L (f .0)) (getD (S .heads) (f .0) 0) p (c .stand .chain (f .0) (f .1)) (f .2)),
         λ h. let lt : h .0 < length (S .heads) = omega (arith, h .1, z .heads) in
-        c .marked (h .0) p lt (leads-on (S .next) (L (h .0)) (h .2) (c .stand .chain (h .0) lt)),
+            c .marked (h .0) p lt (leads-on (S .next) (L (h .0)) (h .2) (c .stand .chain (h .0) lt)),
       )
 
   -- used, the txid's, on no chain
@@ -460,14 +464,14 @@ module _ (S : Store) (z : Sized S) (ok : repairable S ≡ true) where
       let is : memb p (those f (usedSlots (S .xmin))) ≡ (ltb 0 (getD (S .xmin) p 0) && f p) =
       mem-those f (usedSlots (S .xmin)) p ∙ rw (mem-nonzero (S .xmin) p) in (
         λ m. let a = and-true (ltb 0 (getD (S .xmin) p 0)) (f p) (sym is ∙ m) in
-        let b = and-true (eqb (getD (S .xmin) p 0) t) (not (on seen p)) (a .1) in
-        record {
-          used = ltb-true 0 (getD (S .xmin) p 0) (a .0);
-          mine = eqb-true (getD (S .xmin) p 0) t (b .0);
-          off = λ c. clash (on-chain-is p .1 c) (not-true (on seen p) (b .1));
-        },
+            let b = and-true (eqb (getD (S .xmin) p 0) t) (not (on seen p)) (a .1) in
+            record {
+              used = ltb-true 0 (getD (S .xmin) p 0) (a .0);
+              mine = eqb-true (getD (S .xmin) p 0) t (b .0);
+              off = λ c. clash (on-chain-is p .1 c) (not-true (on seen p) (b .1));
+            },
         λ o. let off : on seen p ≡ false = by (on seen p) (λ e. absurd (o .off (on-chain-is p .0 e))) (λ e. e) in
-        is ∙ rw (off, eq-eqb (getD (S .xmin) p 0) t (o .mine), lt-ltb 0 (getD (S .xmin) p 0) (o .used)),
+            is ∙ rw (off, eq-eqb (getD (S .xmin) p 0) t (o .mine), lt-ltb 0 (getD (S .xmin) p 0) (o .used)),
       )
 
   own-rise : (t : ℕ) → rising 0 (ownSlots (S .heads) (S .next) (S .xmin) t) ≡ true
@@ -498,7 +502,7 @@ module _ (S : Store) (z : Sized S) (ok : repairable S ≡ true) where
           rises = rises 0 (those f own) (rising-those 0 f own (own-rise (x .txid .0)));
           members = λ p. rw (mem-those f own p) (
             λ m. let a = and-true (memb p own) (f p) m in
-            (own-members (x .txid .0) p .0 (a .0), λ h. clash (s p .1 (some-turn (finals x) p h)) (not-true (memb p news) (a .1))),
+                (own-members (x .txid .0) p .0 (a .0), λ h. clash (s p .1 (some-turn (finals x) p h)) (not-true (memb p news) (a .1))),
             λ h. and-both (memb p own) (f p) (own-members (x .txid .0) p .1 (h .0))
                 (by (memb p news) (λ e. absurd (h .1 (turn-some (finals x) p (s p .0 e)))) (λ e. rw e)),
           );
