@@ -6,3 +6,5 @@ pub mod Struck
 pub mod Exhibits
 -- the stamps after every commit
 pub mod StampsAfter
+-- the guards after each store of a commit
+pub mod GuardsInTurn

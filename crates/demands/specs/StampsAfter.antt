@@ -213,7 +213,7 @@ module _ (S : Store) (x : Tx) (logged : Bool) (plan : Schedule) where
       })
 
 -- a changed stripe is one of the stripes
-some-below : (S : Store) (ws : List Write) (i : ℕ)
+pub some-below : (S : Store) (ws : List Write) (i : ℕ)
     → Some (λ w. Changes S w × ((k : ℕ) × (HasKey S (w .base .0) k ⊎ HasKey S (w .new .0) k) × (i ≡ k % stripes))) ws → i < stripes
 some-below S [] i h = absurd h
 some-below S (w ∷ ws) i h = ⊎-elim (λ k. omega (arith, k .1 .2)) (λ k. some-below S ws i k) h

@@ -9,13 +9,14 @@ use lib.ListN.{length, getD, take, drop}
 use Rattle.records.specs.Limits.{rows, stripes, partitions}
 use Rattle.records.specs.Zero.{noWrite}
 use Rattle.rules.specs.Lists.{memb}
-use Rattle.rules.specs.Types.{Store, Tx, Schedule, Write, Value, Absent, Key, Answer}
+use Rattle.rules.specs.Types.{Store, Tx, Schedule, Write, Value, Absent, Key, Answer, Uncut, After}
 use Rattle.rules.specs.Store.{posting}
 use Rattle.rules.specs.Transaction.{writesOf, readsOf, indexReadsOf, finals}
 use Rattle.rules.specs.Puts.{Put, putStripe, putPartition, putRemove, putXmax, putHead, putFree, putDrop, putPoison}
 use Rattle.rules.specs.Changes.{Change, indexGuards, partitionGuards, insertions, removals, publication, recycling}
 use Rattle.rules.specs.Numbers.{numberOf}
 use Rattle.rules.specs.Commit.{count}
+use Rattle.rules.specs.Answer.{commit}
 use Rattle.statements.specs.Words.{Some}
 
 -- LISTS
@@ -220,3 +221,33 @@ module _ (S : Store) (x : Tx) (logged : Bool) (plan : Schedule) where
     pub failed : uncut ≡ 17 → (m : ℕ) × Stamped S x m T × (m ≤ n - storesTo21 S x) × (m ≤ count S x logged plan 22)
         × ((m ≡ n - storesTo21 S x) ⊎ (m ≡ count S x logged plan 22))
     pub else : uncut ≢ 0 → uncut ≢ 17 → T .stamps ≡ S .stamps
+
+-- GUARDS DURING A COMMIT
+
+-- exactly these guards are held, by t; every other guard is 0
+pub record Held (t : ℕ) (ss ps : List ℕ) (T : Store) : Type 0 where
+  pub stripe : (i : ℕ) → memb i ss ≡ true → getD (T .«stripe_guards») i 0 ≡ t
+  pub no-stripe : (i : ℕ) → memb i ss ≡ false → getD (T .«stripe_guards») i 0 ≡ 0
+  pub partition : (i : ℕ) → memb i ps ≡ true → getD (T .«partition_guards») i 0 ≡ t
+  pub no-partition : (i : ℕ) → memb i ps ≡ false → getD (T .«partition_guards») i 0 ≡ 0
+
+-- the guards of the stripes ss and the partitions ps as stores are made, T n the store after n of them: "rising, taken index first, released
+-- partition first"; from the last one taken to the store `from` all of them are held
+pub record InOrder (t : ℕ) (T : ℕ → Store) (ss ps : List ℕ) (from : ℕ) : Type 0 where
+  pub taking : (n : ℕ) → n ≤ length ss + length ps → Held t (take n ss) (take (n - length ss) ps) (T n)
+  pub during : (n : ℕ) → length ss + length ps ≤ n → n ≤ from → Held t ss ps (T n)
+  pub releasing : (n : ℕ) → from ≤ n → Held t (drop (n - from - length ps) ss) (drop (n - from) ps) (T n)
+  pub apart : length ss + length ps ≤ from
+
+-- a commit, cut at each of its stores: all guards, or those of the stripes, or none, taken and released in that order; where it passes step 14's
+-- test all of them, and they are held to the last stores
+pub record GuardsOf (S : Store) (x : Tx) (logged : Bool) (plan : Schedule) : Type 0 where
+  pub ss : List ℕ
+  pub ps : List ℕ
+  pub from : ℕ
+  pub order : InOrder (x .txid .0) (λ n. commit S x logged plan (After n) .store) ss ps from
+  pub stripes : (ss ≡ []) ⊎ Exactly (GuardedStripe S x) ss
+  pub partitions : (ps ≡ []) ⊎ Exactly (GuardedPartition x) ps
+  pub all-stripes : commit S x logged plan Uncut .events .«base_validated» ≡ true → Exactly (GuardedStripe S x) ss
+  pub all-partitions : commit S x logged plan Uncut .events .«base_validated» ≡ true → Exactly (GuardedPartition x) ps
+  pub to-the-end : commit S x logged plan Uncut .events .«base_validated» ≡ true → from + length ps + length ss ≡ commit S x logged plan Uncut .stores
