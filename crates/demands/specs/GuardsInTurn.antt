@@ -249,7 +249,7 @@ reads-below : (l : List IndexRead) (i : ℕ) → stripesApart l ≡ true → Som
 reads-below [] i h s = absurd s
 reads-below (e ∷ l) i h s =
     let a = and-true (ltb (e .stripe) stripes) _ h in
-    ⊎-elim (λ k. omega (arith, k, ltb-true (e .stripe) stripes (a .0))) 
+    ⊎-elim (λ k. omega (arith, k, ltb-true (e .stripe) stripes (a .0)))
     (λ k. reads-below l i (and-true (all (λ q. not (eqb (q .stripe) (e .stripe))) l) (stripesApart l) (a .1) .1) k) s
 
 some-modulo : {A : Type 0} (f : A → ℕ) (l : List A) (i : ℕ) → Some (λ a. i ≡ f a % partitions) l → i < partitions
@@ -400,7 +400,8 @@ module _ (S : Store) (x : Tx) where
     shape _ _ _ (done p) =
         late _ _ (toFinish ++ stamping S x) (only-both unguarded toFinish (stamping S x) finished (stamping-kind unguarded S x refl)) (simp append-assoc)
     shape _ _ _ (stays {taken = taken} {back = back} l k r) = early _ logged plan _ [] l refl k (ap (λ (m : List Put). taken ++ m) (sym (append-nil back)))
-    shape _ _ _ (aborts l k r) = early _ logged plan _ (aborting S x logged plan .puts) l (cleaning-kinds unguarded S x logged plan refl refl refl (S .poisoned)) k refl
+    shape _ _ _ (aborts l k r) =
+        early _ logged plan _ (aborting S x logged plan .puts) l (cleaning-kinds unguarded S x logged plan refl refl refl (S .poisoned)) k refl
     shape _ _ _ (uninserted p r) =
         let some = take (count S x logged plan 15) (insertions S x) in
         let back = rollingBack S x logged plan .puts in
@@ -429,3 +430,71 @@ module _ (S : Store) (x : Tx) where
         (only-both unguarded toFinish (some ++ putPoison ∷ []) finished
         (only-both unguarded some (putPoison ∷ []) (only-take unguarded (count S x logged plan 22) (stamping S x) (stamping-kind unguarded S x refl)) refl))
         (simp append-assoc)
+
+module _ (S : Store) (x : Tx) (logged : Bool) (plan : Schedule) (z : Sized S) (ok : Admitted S x plan) where
+  abbrev made : List Put
+  made = runOf S x logged plan .puts
+
+  -- the store of a commit cut at n, or of the whole one if it makes no more
+  after-n : (n : ℕ) → commit S x logged plan (After n) .store ≡ applyAll (take n made) S
+  unfolding uncut cutOff
+  after-n n = by (ltb n (length made))
+      (λ e. rw (admitted S x logged plan (After n) ok, e))
+      (λ e. rw (admitted S x logged plan (After n) ok, e, take-all n made (ltb-false n (length made) e)))
+
+  passed-is : commit S x logged plan Uncut .events .«base_validated» ≡ leb 14 (runOf S x logged plan .passed)
+  unfolding uncut eventsOf
+  passed-is = rw (admitted S x logged plan Uncut ok)
+
+  stores-are : commit S x logged plan Uncut .stores ≡ length made
+  unfolding uncut
+  stores-are = rw (admitted S x logged plan Uncut ok)
+
+  stripe-below : (i : ℕ) → GuardedStripe S x i → i < length (S .«stripe_guards»)
+  stripe-below i g = ⊎-elim
+      (λ k. omega (arith, z .«stripe_guards», some-below S (finals x) i k))
+      (λ k. omega (arith, z .«stripe_guards», reads-below (indexReadsOf x) i (fit-parts S x (ok .fits) .stripes) k)) g
+
+  partition-below : (i : ℕ) → GuardedPartition x i → i < length (S .«partition_guards»)
+  partition-below i g = ⊎-elim
+      (λ k. omega (arith, z .«partition_guards», some-modulo (λ (w : Write). w .row .0) (writesOf x) i k))
+      (λ k. omega (arith, z .«partition_guards», some-modulo (λ (e : ReadRecord). e .row .0) (readsOf x) i k)) g
+
+  -- what holds of no list and of the guards' holds of either
+  pick : (P : List ℕ → Type 0) (l m : List ℕ) → P [] → P m → (l ≡ []) ⊎ (l ≡ m) → P l
+  pick P l m a b h = ⊎-elim (λ e. rw e a) (λ e. rw e b) h
+
+  -- "Guards: .. rising, taken index first, released partition first": every admitted commit
+  pub guards-in-turn : GuardsOf S x logged plan
+  guards-in-turn =
+      let h = shape S x logged plan _ _ _ (outcome S x logged plan) in
+      let zeros = guards-zero S (ok .rests) in
+      let ss = guarded-stripes-say S x in
+      let ps = guarded-partitions-say x in
+      let gs = guardedStripes (changes S x) x in
+      let gp = guardedPartitions x in
+      record {
+        ss = h .ss;
+        ps = h .ps;
+        from = length (h .ss) + length (h .ps) + length (h .amid);
+        order = in-order S (x .txid .0) (h .ss) (h .ps) (h .amid) (h .rest) (h .amid-spares) (h .rest-spares) (zeros .0) (zeros .1)
+            (pick (λ l. (i : ℕ) → memb i l ≡ true → i < length (S .«stripe_guards»)) (h .ss) gs
+            (λ i m. clash {b = false} m refl) (λ i m. stripe-below i (ss .members i .0 m)) (h .stripes))
+            (pick (λ l. (i : ℕ) → memb i l ≡ true → i < length (S .«partition_guards»)) (h .ps) gp
+            (λ i m. clash {b = false} m refl) (λ i m. partition-below i (ps .members i .0 m)) (h .partitions))
+            (pick Rises (h .ss) gs (λ a b lt lb. absurd (omega arith)) (ss .rises) (h .stripes))
+            (pick Rises (h .ps) gp (λ a b lt lb. absurd (omega arith)) (ps .rises) (h .partitions))
+            (λ n. commit S x logged plan (After n) .store)
+            (λ n. after-n n ∙ ap (λ (l : List Put). applyAll (take n l) S) (h .are));
+        stripes = ⊎-elim (λ e. inl e) (λ e. inr (rw e ss)) (h .stripes);
+        partitions = ⊎-elim (λ e. inl e) (λ e. inr (rw e ps)) (h .partitions);
+        all-stripes = λ p. rw (h .all-stripes (sym passed-is ∙ p)) ss;
+        all-partitions = λ p. rw (h .all-partitions (sym passed-is ∙ p)) ps;
+        to-the-end = λ p. long (h .ss) (h .ps) (h .amid) (h .rest) (h .amid-spares) (h .rest-spares) (h .are) (h .last (sym passed-is ∙ p));
+      }
+    where
+      long : (ss ps : List ℕ) (M W : List Put) (m : only unguarded M ≡ true) (w : only unguarded W ≡ true)
+          → made ≡ whole S (x .txid .0) ss ps M W m w → W ≡ []
+          → length ss + length ps + length M + length ps + length ss ≡ commit S x logged plan Uncut .stores
+      long ss ps M W m w e n =
+          sym (stores-are ∙ ap length e ∙ simp (length-append, length-map) (omega (arith, ap length n)))
