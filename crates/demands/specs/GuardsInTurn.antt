@@ -5,36 +5,36 @@ use mathlib.Core.List.{List, [], _∷_, _++_, map, append-assoc, append-nil}
 use mathlib.Core.Logic.{_⊎_, inl, inr, ⊎-elim}
 use Prim.Native.Nat.{ℕ, zero, suc, _+_, _-_, _<_, _≤_, _%_}
 use native.Mathlib.Omega.{arith}
-use lib.ListN.{length, getD, take, drop, length-append, length-map, length-take, length-drop, take-append-drop, drop-of-length-le}
+use lib.ListN.{length, getD, take, drop, length-append, length-map, length-take, length-drop}
 use lib.Seq.{take-all, getD-take, getD-drop}
 use lib.Dec.{eqb, ltb, leb}
-use borrow.Author.Tests.{ltb-true, ltb-false, lt-ltb}
+use borrow.Author.Tests.{ltb-true, ltb-false}
 use Rattle.records.specs.Limits.{stripes, partitions}
 use Rattle.rules.specs.Lists.{all, allZero, flat, nonzeroFrom, memb}
-use Rattle.rules.specs.Types.{Store, Tx, Write, ReadRecord, IndexRead, Schedule, Answer, Cut, Uncut, After, Fate, Refusal, Key}
+use Rattle.rules.specs.Types.{Store, Tx, Write, ReadRecord, IndexRead, Schedule, Uncut, After, Fate, Refusal, Key}
 use Rattle.rules.specs.Transaction.{writesOf, readsOf, indexReadsOf, finals}
 use Rattle.rules.specs.Fit.{stripesApart}
 use Rattle.rules.specs.Puts.{Put, kStripe, kPartition, putStripe, putPartition, putDrop, putPoison, applyAll}
 use Rattle.rules.specs.Changes.{changes, destinations, guardedStripes, guardedPartitions, indexGuards, partitionGuards, release, insertions, removals}
 use Rattle.rules.specs.Changes.{publication, recycling, stamping}
-use Rattle.rules.specs.Commit.{End, count, finish, runOf}
-use Rattle.rules.specs.Answer.{eventsOf, uncut, cutOff, answer, commit}
+use Rattle.rules.specs.Commit.{End, count, runOf}
+use Rattle.rules.specs.Answer.{eventsOf, uncut, cutOff, commit}
 use Rattle.rules.specs.Replay.{Line, lineB, lineR, lineW, lineL, lineC, start}
 use Rattle.rules.specs.Computing.{computing}
 use Rattle.statements.specs.Sized.{Sized}
 use Rattle.statements.specs.Words.{Some, Admitted}
-use Rattle.statements.specs.StepWords.{Rises, Exactly, GuardedStripe, GuardedPartition, Held, InOrder, GuardsOf}
+use Rattle.statements.specs.StepWords.{Rises, GuardedStripe, GuardedPartition, InOrder, GuardsOf}
 use Rattle.sentences.specs.Mornings.{morning}
 use Rattle.sentences.specs.StepsSay.{guarded-stripes-say, guarded-partitions-say}
 use Rattle.basic_laws.specs.Cases.{by, clash, or-true, or-left, or-right, and-true}
 use Rattle.basic_laws.specs.Members.{mem-at}
 use Rattle.basic_laws.specs.Places.{zero-at}
 use Rattle.basic_laws.specs.TestParts.{fit-parts}
-use Rattle.run_laws.specs.OnlyKinds.{only, only-both, only-map, only-take, only-if, kept, is-not}
-use Rattle.run_laws.specs.GuardPuts.{setAll, set-all-else, set-all-there, set-all-here, set-all-long, stripes-put, partitions-put, applyAll-append, guards-zero}
+use Rattle.run_laws.specs.OnlyKinds.{only, only-both, only-take, only-if, kept, is-not}
+use Rattle.run_laws.specs.GuardPuts.{setAll, set-all-else, set-all-there, set-all-here, stripes-put, partitions-put, applyAll-append, guards-zero}
 use Rattle.run_laws.specs.Released.{unguarded}
 use Rattle.run_laws.specs.Kinds.{insertions-kind, removals-kind, publication-kinds, recycling-kind, stamping-kind, cleaning-kinds, rollback-kinds, finish-kind}
-use Rattle.run_laws.specs.Outcome.{Taken, neither, index, both, guardsTaken, afterInsert, afterRemove, afterPublish, afterRecycle, afterFinish, afterStamp}
+use Rattle.run_laws.specs.Outcome.{Taken, neither, index, both, guardsTaken}
 use Rattle.run_laws.specs.Outcome.{aborting, rollingBack, undoing, abortingLate, worse, Spoil, unremoved, unpublished, unrecycled, unfinished, Outcome}
 use Rattle.run_laws.specs.Outcome.{done, stays, aborts, uninserted, uncalled, spoils, unstamped, outcome}
 use Rattle.run_laws.specs.FirstRows.{admitted}

@@ -2,13 +2,13 @@
 use mathlib.Core.Path.{_≡_, refl, sym, ap, _∙_}
 use mathlib.Core.Bool.{Bool, true, false, cond, _||_}
 use mathlib.Core.List.{List, [], _∷_, _++_, map, append-assoc, append-nil}
-use mathlib.Core.Logic.{_≢_, _⊎_, inl, inr, ⊎-elim}
-use Prim.Native.Nat.{ℕ, zero, suc, _+_, _-_, _<_, _≤_, _%_}
+use mathlib.Core.Logic.{_⊎_, inl, inr, ⊎-elim}
+use Prim.Native.Nat.{ℕ, _+_, _-_, _<_, _%_}
 use native.Mathlib.Omega.{arith}
 use lib.ListN.{length, getD, take, length-append, length-map, length-take}
 use lib.Seq.{take-append-le, take-append-add, take-all, take-take, take-length}
 use lib.Dec.{eqb, ltb, leb}
-use borrow.Author.Tests.{eqb-true, eq-eqb, ltb-true, ltb-false, lt-ltb, leb-true, leb-false}
+use borrow.Author.Tests.{eq-eqb, ltb-true, ltb-false, lt-ltb, leb-true, leb-false}
 use Rattle.records.specs.Limits.{stripes}
 use Rattle.rules.specs.Lists.{memb}
 use Rattle.rules.specs.Types.{Store, Tx, Write, Schedule, Answer, Cut, Uncut, After, Fate, Open, Closed, Refusal, NotResting, Unfit, NotActive}
@@ -16,13 +16,13 @@ use Rattle.rules.specs.Transaction.{finals}
 use Rattle.rules.specs.Numbers.{numberOf}
 use Rattle.rules.specs.Puts.{Put, kStripe, kPartition, kInsert, kRemove, kXmax, kHead, kFree, kDrop, kStamp, kPoison, kDoom, putDrop, putStamp, putPoison}
 use Rattle.rules.specs.Puts.{apply, applyAll}
-use Rattle.rules.specs.Changes.{changes, destinations, changedStripes, indexGuards, partitionGuards, release, insertions, removals, publication, recycling}
+use Rattle.rules.specs.Changes.{changes, destinations, changedStripes, release, insertions, removals, publication, recycling}
 use Rattle.rules.specs.Changes.{stamping}
-use Rattle.rules.specs.Commit.{End, count, finish, runOf}
+use Rattle.rules.specs.Commit.{End, count, runOf}
 use Rattle.rules.specs.Answer.{uncut, cutOff, answer, unchanged, commit}
 use Rattle.statements.specs.Sized.{Sized}
-use Rattle.statements.specs.Words.{Some, Admitted}
-use Rattle.statements.specs.StepWords.{Changes, HasKey, ChangedStripe, Stamped, AllStamped, storesTo21, StampsAfter, StampsCut}
+use Rattle.statements.specs.Words.{Some}
+use Rattle.statements.specs.StepWords.{Changes, HasKey, Stamped, AllStamped, storesTo21, StampsAfter, StampsCut}
 use Rattle.sentences.specs.StepsSay.{changed-stripes-say}
 use Rattle.basic_laws.specs.Cases.{by, clash, or-false}
 use Rattle.run_laws.specs.OnlyKinds.{only, only-both, only-take, only-if, kept, is-not}

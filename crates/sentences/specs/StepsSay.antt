@@ -1,23 +1,23 @@
 -- "Steps and faults": final writes, changes, guards, publication, recycling, stamps; what is in each list, and in which order.
 use mathlib.Core.Path.{_≡_, refl, sym, ap, _∙_}
-use mathlib.Core.Bool.{Bool, true, false, not, cond, _&&_, _||_}
+use mathlib.Core.Bool.{Bool, true, false, not, cond, _&&_}
 use mathlib.Core.List.{List, [], _∷_, _++_, map, reverse, reverse-cons, map-append, append-nil}
 use mathlib.Core.Logic.{_≢_, _⊎_, inl, inr, ⊎-elim, _↔_}
-use Prim.Native.Nat.{ℕ, zero, suc, _+_, _-_, _<_, _≤_, _%_}
+use Prim.Native.Nat.{ℕ, zero, suc, _-_, _<_, _≤_, _%_}
 use native.Mathlib.Omega.{arith}
-use lib.ListN.{length, getD, take, length-append, length-reverse, List·getD-append}
+use lib.ListN.{length, getD, take, length-reverse, List·getD-append}
 use lib.Seq.{getD-append-seam}
 use lib.Dec.{eqb, ltb, leb}
-use borrow.Author.Tests.{eqb-true, eqb-false, eq-eqb, ne-eqb, ltb-true, ltb-false, lt-ltb, leb-true, le-leb, not-true, not-false}
+use borrow.Author.Tests.{eqb-true, eqb-false, eq-eqb, ne-eqb, ltb-true, ltb-false, lt-ltb, leb-true, le-leb, not-true}
 use Rattle.records.specs.Limits.{stripes}
 use Rattle.records.specs.Zero.{noWrite}
 use Rattle.rules.specs.Lists.{any, those, flat, nonzeroFrom, memb, rising, inOrder}
-use Rattle.rules.specs.Types.{Store, Tx, Write, Schedule, Value, Absent, Key}
+use Rattle.rules.specs.Types.{Store, Tx, Write, Schedule}
 use Rattle.rules.specs.Store.{valueAt, sameValue, partitionOf, usedSlots, slotsInForm}
 use Rattle.rules.specs.Transaction.{writesOf, readsOf, indexReadsOf, finalWrites, finals}
 use Rattle.rules.specs.Chains.{walk, on}
 use Rattle.rules.specs.Admitted.{repairable}
-use Rattle.rules.specs.Puts.{Put, putStripe, putPartition, putInsert, putRemove, putFree, putDrop, putStamp, putPoison, ownSlots, abortPuts}
+use Rattle.rules.specs.Puts.{putStripe, putPartition, putInsert, putRemove, putFree, putStamp, ownSlots, abortPuts}
 use Rattle.rules.specs.Changes.{Change, changeOf, indexChanges, changes, postingIn, destinations, sources, stripesIn, changedStripes, guardedStripes}
 use Rattle.rules.specs.Changes.{guardedPartitions, indexGuards, partitionGuards, release, publishOne, insertions, removals, publication, recycled, recycling}
 use Rattle.rules.specs.Changes.{stamping}
@@ -26,7 +26,7 @@ use Rattle.rules.specs.Commit.{End, stopIf, strikes, fails, count, rollback, in
 use Rattle.rules.specs.Commit.{acquireIndexLocks, acquirePartitionLocks, steps, run}
 use Rattle.statements.specs.Sized.{Sized}
 use Rattle.statements.specs.Words.{Some}
-use Rattle.statements.specs.StepWords.{Rises, Exactly, OneEach, InTurn, Reversed, FinalAt, FinalWrites, HasKey, HasNone, SameAt, Changes, ValueIs, NoneForFree}
+use Rattle.statements.specs.StepWords.{Rises, Exactly, OneEach, InTurn, Reversed, FinalAt, FinalWrites, HasKey, SameAt, Changes, ValueIs, NoneForFree}
 use Rattle.statements.specs.StepWords.{ChangesOf, PostsOf, PutsIn, TakesOut, ChangedStripe, GuardedStripe}
 use Rattle.statements.specs.StepWords.{GuardedPartition, Takes, LetsGo, PublishesOne, Publishes}
 use Rattle.statements.specs.StepWords.{Leads, here, along, OnChain, OffChainOf, Recycled, FreesAndDrops, RollsBack}
