@@ -1,7 +1,7 @@
 -- "Steps and faults": final writes, changes, guards, publication, recycling, stamps; what is in each list, and in which order.
 use mathlib.Core.Path.{_≡_, refl, sym, ap, _∙_}
 use mathlib.Core.Bool.{Bool, true, false, not, cond, _&&_}
-use mathlib.Core.List.{List, [], _∷_, _++_, map, reverse, reverse-cons, map-append, append-nil}
+use mathlib.Core.List.{List, [], _∷_, _++_, map, reverse, reverse-cons, map-append, append-assoc, append-nil}
 use mathlib.Core.Logic.{_≢_, _⊎_, inl, inr, ⊎-elim, _↔_}
 use Prim.Native.Nat.{ℕ, zero, suc, _-_, _<_, _≤_, _%_}
 use native.Mathlib.Omega.{arith}
@@ -17,19 +17,22 @@ use Rattle.rules.specs.Store.{valueAt, sameValue, partitionOf, usedSlots, slots
 use Rattle.rules.specs.Transaction.{writesOf, readsOf, indexReadsOf, finalWrites, finals}
 use Rattle.rules.specs.Chains.{walk, on}
 use Rattle.rules.specs.Admitted.{repairable}
-use Rattle.rules.specs.Puts.{putStripe, putPartition, putInsert, putRemove, putFree, putStamp, ownSlots, abortPuts}
+use Rattle.rules.specs.Puts.{Put, putStripe, putPartition, putInsert, putRemove, putFree, putDrop, putStamp, ownSlots, abortPuts}
 use Rattle.rules.specs.Changes.{Change, changeOf, indexChanges, changes, postingIn, destinations, sources, stripesIn, changedStripes, guardedStripes}
 use Rattle.rules.specs.Changes.{guardedPartitions, indexGuards, partitionGuards, release, publishOne, insertions, removals, publication, recycled, recycling}
 use Rattle.rules.specs.Changes.{stamping}
-use Rattle.rules.specs.Faults.{F, B, P}
-use Rattle.rules.specs.Commit.{End, stopIf, strikes, fails, count, rollback, indexChangesMade, indexLockKeys, prepareCommitRecord, runPrepare}
-use Rattle.rules.specs.Commit.{acquireIndexLocks, acquirePartitionLocks, steps, run}
+use Rattle.rules.specs.Faults.{F, B, P, X, Q}
+use Rattle.rules.specs.Tests.{indexReadConflict, rowLockConflict, serializationConflict, writeBaseConflict}
+use Rattle.rules.specs.Commit.{End, Step, goes, test, stopIf, strikes, fails, count, rollback, indexChangesMade, indexLockKeys, prepareCommitRecord, runPrepare}
+use Rattle.rules.specs.Commit.{acquireIndexLocks, acquirePartitionLocks, unloggedWrites, ensureUnloggedWriteAllowed, checkNotPoisoned}
+use Rattle.rules.specs.Commit.{prepareIndexDestinations, invokeBeforePublish, removeIndexSources, publishWriteSet, recycleNonFinalWrites}
+use Rattle.rules.specs.Commit.{finishTransaction, publishIndexStamps, steps, run, committed, runOf}
 use Rattle.statements.specs.Sized.{Sized}
 use Rattle.statements.specs.Words.{Some}
 use Rattle.statements.specs.StepWords.{Rises, Exactly, OneEach, InTurn, Reversed, FinalAt, FinalWrites, HasKey, SameAt, Changes, ValueIs, NoneForFree}
 use Rattle.statements.specs.StepWords.{ChangesOf, PostsOf, PutsIn, TakesOut, ChangedStripe, GuardedStripe}
 use Rattle.statements.specs.StepWords.{GuardedPartition, Takes, LetsGo, PublishesOne, Publishes}
-use Rattle.statements.specs.StepWords.{Leads, here, along, OnChain, OffChainOf, Recycled, FreesAndDrops, RollsBack}
+use Rattle.statements.specs.StepWords.{Leads, here, along, OnChain, OffChainOf, Recycled, FreesAndDrops, RollsBack, CleanRun}
 use Rattle.basic_laws.specs.Cases.{by, clash, iff, or-true, or-false, or-left, or-right, and-true, and-false, and-both, mem-here, mem-there}
 use Rattle.basic_laws.specs.Members.{at-mem, mem-those, mem-nonzero}
 use Rattle.basic_laws.specs.Rising.{rising-less, rising-from, mem-inOrder, rising-inOrder}
@@ -546,7 +549,7 @@ rollback-says S x logged plan already made = record {
   poisoned = λ f a. rw (f, a) (append-nil (take (count S x logged plan 24) (map putRemove (reverse made))));
 }
 
--- STEPS 7 AND 8
+-- THE STEPS
 
 -- "rising, taken index first": what a run has stored when it has passed the first eight steps
 pub taking-says : (S : Store) (x : Tx) (logged : Bool) (plan : Schedule) (e : End)
@@ -575,3 +578,139 @@ taking-says S x logged plan e h =
       then = partition-guards-say x (x .txid .0);
       both = ap (λ m. indexGuards S x (x .txid .0) ++ m) (append-nil (partitionGuards x (x .txid .0)));
     })
+
+-- an empty schedule strikes nowhere
+never : (S : Store) (x : Tx) (logged : Bool) (plan : Schedule) → plan .count ≡ 0 → (n c : ℕ) → 0 < c → strikes S x logged plan n c ≡ false
+unfolding strikes
+never S x logged plan q n c lt = rw q (ne-eqb 0 c (omega arith))
+
+-- steps of which each goes on, with its stores; and the run of them
+data Go : List Step → List (List Put) → Type 0 where
+  over : Go [] []
+  go : {s : Step} {ss : List Step} {ps : List Put} {pss : List (List Put)} → s ≡ goes ps → Go ss pss → Go (s ∷ ss) (ps ∷ pss)
+
+all-go : (e : End) {ss : List Step} {pss : List (List Put)} → Go ss pss → run e ss .puts ≡ flat (λ ps. ps) pss
+all-go e over = refl
+all-go e (go {ps = ps} h r) = rw h (ap (λ (m : List Put). ps ++ m) (all-go e r))
+
+-- what each step stores where no fault strikes and no test says yes
+module _ (S : Store) (x : Tx) (logged : Bool) (plan : Schedule) (q : plan .count ≡ 0) where
+  unstruck : (n : ℕ) → fails S x logged plan n ≡ false
+  unstruck n = never S x logged plan q n F (omega arith)
+
+  three : indexChangesMade S x logged plan ≡ goes []
+  unfolding indexChangesMade stopIf
+  three = rw (unstruck 3)
+
+  four : indexLockKeys S x logged plan ≡ goes []
+  unfolding indexLockKeys stopIf
+  four = rw (unstruck 4)
+
+  five : prepareCommitRecord S x logged plan ≡ goes []
+  unfolding prepareCommitRecord stopIf
+  five = rw (unstruck 5, and-false logged)
+
+  six : runPrepare S x logged plan ≡ goes []
+  unfolding runPrepare stopIf
+  six = rw (unstruck 6, never S x logged plan q 6 P (omega arith), and-false logged)
+
+  seven : acquireIndexLocks S x logged plan ≡ goes (indexGuards S x (x .txid .0))
+  unfolding acquireIndexLocks stopIf
+  seven = rw (unstruck 7, never S x logged plan q 7 B (omega arith))
+
+  eight : acquirePartitionLocks S x logged plan ≡ goes (partitionGuards x (x .txid .0))
+  unfolding acquirePartitionLocks stopIf
+  eight = rw (unstruck 8, never S x logged plan q 8 B (omega arith))
+
+  nine : (unloggedWrites S x logged plan && S .bound) ≡ false → ensureUnloggedWriteAllowed S x logged plan ≡ goes []
+  unfolding ensureUnloggedWriteAllowed stopIf
+  nine free = rw (unstruck 9, and-false (unloggedWrites S x logged plan), free)
+
+  ten : S .poisoned ≡ false → checkNotPoisoned S x logged plan ≡ goes []
+  unfolding checkNotPoisoned stopIf
+  ten sound = rw (unstruck 10, sound)
+
+  tested : (n : ℕ) (b : Bool) → b ≡ false → test S x logged plan n b ≡ goes []
+  unfolding stopIf
+  tested n b e = rw (unstruck n, e)
+
+  fifteen : prepareIndexDestinations S x logged plan ≡ goes (insertions S x)
+  unfolding prepareIndexDestinations stopIf
+  fifteen = rw (unstruck 15)
+
+  sixteen : invokeBeforePublish S x logged plan ≡ goes []
+  unfolding invokeBeforePublish stopIf
+  sixteen =
+      rw (
+        unstruck 16,
+        never S x logged plan q 16 X (omega arith),
+        never S x logged plan q 16 Q (omega arith),
+        never S x logged plan q 16 P (omega arith),
+        and-false logged,
+      )
+
+  seventeen : removeIndexSources S x logged plan ≡ goes (removals S x)
+  unfolding removeIndexSources stopIf
+  seventeen = rw (unstruck 17)
+
+  eighteen : publishWriteSet S x logged plan ≡ goes (publication x)
+  unfolding publishWriteSet stopIf
+  eighteen = rw (unstruck 18)
+
+  nineteen : recycleNonFinalWrites S x logged plan ≡ goes (recycling S x)
+  unfolding recycleNonFinalWrites stopIf
+  nineteen = rw (unstruck 19)
+
+  twenty-one : finishTransaction S x logged plan ≡ goes (putDrop (x .txid .0) ∷ [])
+  unfolding finishTransaction stopIf
+  twenty-one = rw (unstruck 21)
+
+  twenty-two : publishIndexStamps S x logged plan ≡ goes (stamping S x)
+  unfolding publishIndexStamps stopIf
+  twenty-two = rw (unstruck 22)
+
+  -- the stores of steps 1 to 22 and of the guards let go: all of them go on
+  abbrev cleanly : List (List Put)
+  cleanly =
+      [] ∷ [] ∷ [] ∷ [] ∷ [] ∷ [] ∷ indexGuards S x (x .txid .0) ∷ partitionGuards x (x .txid .0) ∷ [] ∷ [] ∷ [] ∷ [] ∷ [] ∷ []
+      ∷ insertions S x ∷ [] ∷ removals S x ∷ publication x ∷ recycling S x ∷ [] ∷ (putDrop (x .txid .0) ∷ []) ∷ stamping S x ∷ release S x ∷ []
+
+  clean-stores : (unloggedWrites S x logged plan && S .bound) ≡ false → S .poisoned ≡ false
+      → indexReadConflict S x ≡ false → rowLockConflict S x ≡ false → serializationConflict S x ≡ false → writeBaseConflict S x ≡ false
+      → runOf S x logged plan .puts ≡ flat (λ ps. ps) cleanly
+  unfolding runOf steps
+  clean-stores free sound t11 t12 t13 t14 =
+      all-go (committed x) {pss = cleanly} (
+      go refl (go refl (go three (go four (go five (go six (go seven (go eight (go (nine free) (go (ten sound) (
+      go (tested 11 (indexReadConflict S x) t11) (go (tested 12 (rowLockConflict S x) t12) (
+      go (tested 13 (serializationConflict S x) t13) (go (tested 14 (writeBaseConflict S x) t14) (
+      go fifteen (go sixteen (go seventeen (go eighteen (go nineteen (go refl (go twenty-one (go twenty-two (go refl over)))))))))))))))))))))))
+
+  -- a clean commit's stores, in the order of the steps
+  pub clean-run-says : Sized S → repairable S ≡ true → (unloggedWrites S x logged plan && S .bound) ≡ false → S .poisoned ≡ false
+      → indexReadConflict S x ≡ false → rowLockConflict S x ≡ false → serializationConflict S x ≡ false → writeBaseConflict S x ≡ false
+      → CleanRun S x (runOf S x logged plan .puts)
+  clean-run-says z ok free sound t11 t12 t13 t14 =
+      record {
+        taken = indexGuards S x (x .txid .0) ++ partitionGuards x (x .txid .0);
+        inserted = insertions S x;
+        removed = removals S x;
+        published = publication x;
+        freed = recycling S x;
+        stamped = stamping S x;
+        released = release S x;
+        takes = record {
+          index = indexGuards S x (x .txid .0);
+          partition = partitionGuards x (x .txid .0);
+          first = index-guards-say S x (x .txid .0);
+          then = partition-guards-say x (x .txid .0);
+          both = refl;
+        };
+        inserts = insertions-say S x;
+        removes = removals-say S x;
+        publishes = publication-says x;
+        frees = recycling-says S z ok x;
+        stamps = stamps-say S x;
+        lets-go = release-says S x;
+        order = clean-stores free sound t11 t12 t13 t14 ∙ simp (append-assoc, append-nil);
+      }

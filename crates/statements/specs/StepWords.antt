@@ -12,7 +12,7 @@ use Rattle.rules.specs.Lists.{memb}
 use Rattle.rules.specs.Types.{Store, Tx, Schedule, Write, Value, Absent, Key, Answer, Uncut, After}
 use Rattle.rules.specs.Store.{posting}
 use Rattle.rules.specs.Transaction.{writesOf, readsOf, indexReadsOf, finals}
-use Rattle.rules.specs.Puts.{Put, putStripe, putPartition, putRemove, putXmax, putHead, putFree, putDrop, putPoison}
+use Rattle.rules.specs.Puts.{Put, putStripe, putPartition, putInsert, putRemove, putXmax, putHead, putFree, putDrop, putStamp, putPoison}
 use Rattle.rules.specs.Changes.{Change, indexGuards, partitionGuards, insertions, removals, publication, recycling}
 use Rattle.rules.specs.Numbers.{numberOf}
 use Rattle.rules.specs.Commit.{count}
@@ -186,6 +186,26 @@ pub record RollsBack (made : List ℕ) (already failed : Bool) (k : ℕ) (ps : L
   pub all : failed ≡ false → ps ≡ map putRemove back
   pub some : failed ≡ true → already ≡ false → ps ≡ take k (map putRemove back) ++ putPoison ∷ []
   pub poisoned : failed ≡ true → already ≡ true → ps ≡ take k (map putRemove back)
+
+-- A CLEAN COMMIT
+
+-- its stores, in the order of source 000's steps: 7 and 8, 15, 17, 18, 19, 21, 22, and the guards let go
+pub record CleanRun (S : Store) (x : Tx) (ps : List Put) : Type 0 where
+  pub taken : List Put
+  pub inserted : List Put
+  pub removed : List Put
+  pub published : List Put
+  pub freed : List Put
+  pub stamped : List Put
+  pub released : List Put
+  pub takes : Takes S x (x .txid .0) taken
+  pub inserts : PutsIn S putInsert (finals x) inserted
+  pub removes : TakesOut S putRemove (finals x) removed
+  pub publishes : Publishes (x .txid .0) (finals x) published
+  pub frees : OneEach (Recycled S x) putFree freed
+  pub stamps : OneEach (ChangedStripe S x) (λ i. putStamp i (x .txid .0)) stamped
+  pub lets-go : LetsGo S x released
+  pub order : ps ≡ taken ++ (inserted ++ (removed ++ (published ++ (freed ++ putDrop (x .txid .0) ∷ (stamped ++ released)))))
 
 -- STAMPS AFTER A COMMIT
 
