@@ -1,6 +1,6 @@
 -- "Guards: .. rising, taken index first, released partition first": which guards are held after each store of a commit.
 use mathlib.Core.Path.{_≡_, refl, sym, ap, _∙_}
-use mathlib.Core.Bool.{Bool, true, false, not, cond, _||_}
+use mathlib.Core.Bool.{Bool, true, false, not, cond, _&&_, _||_}
 use mathlib.Core.List.{List, [], _∷_, _++_, map, append-assoc, append-nil}
 use mathlib.Core.Logic.{_⊎_, inl, inr, ⊎-elim}
 use Prim.Native.Nat.{ℕ, zero, suc, _+_, _-_, _<_, _≤_, _%_}
@@ -8,12 +8,13 @@ use native.Mathlib.Omega.{arith}
 use lib.ListN.{length, getD, take, drop, length-append, length-map, length-take, length-drop}
 use lib.Seq.{take-all, getD-take, getD-drop}
 use lib.Dec.{eqb, ltb, leb}
-use borrow.Author.Tests.{ltb-true, ltb-false}
+use borrow.Author.Tests.{eq-eqb, ltb-true, ltb-false, le-leb}
 use Rattle.records.specs.Limits.{stripes, partitions}
 use Rattle.rules.specs.Lists.{all, allZero, flat, nonzeroFrom, memb}
 use Rattle.rules.specs.Types.{Store, Tx, Write, ReadRecord, IndexRead, Schedule, Uncut, After, Fate, Refusal, Key}
 use Rattle.rules.specs.Transaction.{writesOf, readsOf, indexReadsOf, finals}
 use Rattle.rules.specs.Fit.{stripesApart}
+use Rattle.rules.specs.Numbers.{numberOf}
 use Rattle.rules.specs.Puts.{Put, kStripe, kPartition, putStripe, putPartition, putDrop, putPoison, applyAll}
 use Rattle.rules.specs.Changes.{changes, destinations, guardedStripes, guardedPartitions, indexGuards, partitionGuards, release, insertions, removals}
 use Rattle.rules.specs.Changes.{publication, recycling, stamping}
@@ -23,10 +24,10 @@ use Rattle.rules.specs.Replay.{Line, lineB, lineR, lineW, lineL, lineC, start}
 use Rattle.rules.specs.Computing.{computing}
 use Rattle.statements.specs.Sized.{Sized}
 use Rattle.statements.specs.Words.{Some, Admitted}
-use Rattle.statements.specs.StepWords.{Rises, GuardedStripe, GuardedPartition, InOrder, GuardsOf}
+use Rattle.statements.specs.StepWords.{PassedTests, Rises, GuardedStripe, GuardedPartition, InOrder, GuardsOf}
 use Rattle.sentences.specs.Mornings.{morning}
 use Rattle.sentences.specs.StepsSay.{guarded-stripes-say, guarded-partitions-say}
-use Rattle.basic_laws.specs.Cases.{by, clash, or-true, or-left, or-right, and-true}
+use Rattle.basic_laws.specs.Cases.{by, clash, or-true, or-left, or-right, and-true, and-both}
 use Rattle.basic_laws.specs.Members.{mem-at}
 use Rattle.basic_laws.specs.Places.{zero-at}
 use Rattle.basic_laws.specs.TestParts.{fit-parts}
@@ -37,7 +38,7 @@ use Rattle.run_laws.specs.Kinds.{insertions-kind, removals-kind, publication-ki
 use Rattle.run_laws.specs.Outcome.{Taken, neither, index, both, guardsTaken}
 use Rattle.run_laws.specs.Outcome.{aborting, rollingBack, undoing, abortingLate, worse, Spoil, unremoved, unpublished, unrecycled, unfinished, Outcome}
 use Rattle.run_laws.specs.Outcome.{done, stays, aborts, uninserted, uncalled, spoils, unstamped, outcome}
-use Rattle.run_laws.specs.FirstRows.{admitted}
+use Rattle.run_laws.specs.FirstRows.{admitted, stay-not, abort-not}
 use Rattle.posting_laws.specs.Undone.{take-map, mem-take}
 use Rattle.demands.specs.StampsAfter.{some-below}
 
@@ -434,6 +435,23 @@ module _ (S : Store) (x : Tx) where
         (only-both unguarded some (putPoison ∷ []) (only-take unguarded (count S x logged plan 22) (stamping S x) (stamping-kind unguarded S x refl)) refl))
         (simp append-assoc)
 
+-- 0 and 10 to 17 are answered past the tests alone
+abbrev lateNumber : ℕ → Bool
+lateNumber n = eqb n 0 || (leb 10 n && leb n 17)
+
+late-passed : (S : Store) (x : Tx) (logged : Bool) (plan : Schedule) (n : ℕ) (ps : List Put) (d : End) → Outcome S x logged plan n ps d
+    → lateNumber (numberOf (d .refusal)) ≡ true → leb 14 n ≡ true
+late-passed S x logged plan _ _ _ (done p) h = refl
+late-passed S x logged plan _ _ _ (stays l k r) h = clash h (stay-not lateNumber refl refl r _)
+late-passed S x logged plan _ _ _ (aborts l k r) h = clash h (abort-not lateNumber refl refl refl refl refl r)
+late-passed S x logged plan _ _ _ (uninserted p r) h = refl
+late-passed S x logged plan _ _ _ (uncalled p l r) h = refl
+late-passed S x logged plan _ _ _ (spoils p (unremoved r)) h = refl
+late-passed S x logged plan _ _ _ (spoils p (unpublished r)) h = refl
+late-passed S x logged plan _ _ _ (spoils p (unrecycled r)) h = refl
+late-passed S x logged plan _ _ _ (spoils p (unfinished r)) h = refl
+late-passed S x logged plan _ _ _ (unstamped p r) h = refl
+
 module _ (S : Store) (x : Tx) (logged : Bool) (plan : Schedule) (z : Sized S) (ok : Admitted S x plan) where
   abbrev made : List Put
   made = runOf S x logged plan .puts
@@ -445,9 +463,19 @@ module _ (S : Store) (x : Tx) (logged : Bool) (plan : Schedule) (z : Sized S) (o
       (λ e. rw (admitted S x logged plan (After n) ok, e))
       (λ e. rw (admitted S x logged plan (After n) ok, e, take-all n made (ltb-false n (length made) e)))
 
-  passed-is : commit S x logged plan Uncut .events .«base_validated» ≡ leb 14 (runOf S x logged plan .passed)
+  -- its number, or its events, say that it passed step 14
+  passed-is : PassedTests (commit S x logged plan Uncut) → leb 14 (runOf S x logged plan .passed) ≡ true
   unfolding uncut eventsOf
-  passed-is = rw (admitted S x logged plan Uncut ok)
+  passed-is h =
+      let u = rw (admitted S x logged plan Uncut ok) at h in
+      let n = numberOf (runOf S x logged plan .end .refusal) in
+      let by-number : lateNumber n ≡ true → leb 14 (runOf S x logged plan .passed) ≡ true =
+      λ e. late-passed S x logged plan _ _ _ (outcome S x logged plan) e in
+      ⊎-elim
+      (λ e. by-number (or-left (eqb n 0) (leb 10 n && leb n 17) (eq-eqb n 0 e)))
+      (λ k. ⊎-elim
+      (λ e. by-number (or-right (eqb n 0) (leb 10 n && leb n 17) (and-both (leb 10 n) (leb n 17) (le-leb 10 n (e .0)) (le-leb n 17 (e .1)))))
+      (λ e. e) k) u
 
   stores-are : commit S x logged plan Uncut .stores ≡ length made
   unfolding uncut
@@ -491,9 +519,9 @@ module _ (S : Store) (x : Tx) (logged : Bool) (plan : Schedule) (z : Sized S) (o
             (λ n. after-n n ∙ ap (λ (l : List Put). applyAll (take n l) S) (h .are));
         stripes = ⊎-elim (λ e. inl e) (λ e. inr (rw e ss)) (h .stripes);
         partitions = ⊎-elim (λ e. inl e) (λ e. inr (rw e ps)) (h .partitions);
-        all-stripes = λ p. rw (h .all-stripes (sym passed-is ∙ p)) ss;
-        all-partitions = λ p. rw (h .all-partitions (sym passed-is ∙ p)) ps;
-        to-the-end = λ p. long (h .ss) (h .ps) (h .amid) (h .rest) (h .amid-spares) (h .rest-spares) (h .are) (h .last (sym passed-is ∙ p));
+        all-stripes = λ p. rw (h .all-stripes (passed-is p)) ss;
+        all-partitions = λ p. rw (h .all-partitions (passed-is p)) ps;
+        to-the-end = λ p. long (h .ss) (h .ps) (h .amid) (h .rest) (h .amid-spares) (h .rest-spares) (h .are) (h .last (passed-is p));
       }
     where
       long : (ss ps : List ℕ) (M W : List Put) (m : only unguarded M ≡ true) (w : only unguarded W ≡ true)

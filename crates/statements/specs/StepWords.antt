@@ -259,8 +259,12 @@ pub record InOrder (t : ℕ) (T : ℕ → Store) (ss ps : List ℕ) (from : ℕ)
   pub releasing : (n : ℕ) → from ≤ n → Held t (drop (n - from - length ps) ss) (drop (n - from) ps) (T n)
   pub apart : length ss + length ps ≤ from
 
--- a commit, cut at each of its stores: all guards, or those of the stripes, or none, taken and released in that order; where it passes step 14's
--- test all of them, and they are held to the last stores
+-- a commit, uncut, that passed step 14's test: it answers 0 or 10 to 17, or (19 in place of 11) its events say so
+abbrev pub PassedTests : Answer → Type 0
+PassedTests u = (numberOf (u .refusal) ≡ 0) ⊎ (((10 ≤ numberOf (u .refusal)) × (numberOf (u .refusal) ≤ 17)) ⊎ (u .events .«base_validated» ≡ true))
+
+-- a commit, cut at each of its stores: all guards, or those of the stripes, or none, taken and released in that order; where it passed its tests
+-- all of them, and they are held to the last stores
 pub record GuardsOf (S : Store) (x : Tx) (logged : Bool) (plan : Schedule) : Type 0 where
   pub ss : List ℕ
   pub ps : List ℕ
@@ -268,6 +272,6 @@ pub record GuardsOf (S : Store) (x : Tx) (logged : Bool) (plan : Schedule) : Typ
   pub order : InOrder (x .txid .0) (λ n. commit S x logged plan (After n) .store) ss ps from
   pub stripes : (ss ≡ []) ⊎ Exactly (GuardedStripe S x) ss
   pub partitions : (ps ≡ []) ⊎ Exactly (GuardedPartition x) ps
-  pub all-stripes : commit S x logged plan Uncut .events .«base_validated» ≡ true → Exactly (GuardedStripe S x) ss
-  pub all-partitions : commit S x logged plan Uncut .events .«base_validated» ≡ true → Exactly (GuardedPartition x) ps
-  pub to-the-end : commit S x logged plan Uncut .events .«base_validated» ≡ true → from + length ps + length ss ≡ commit S x logged plan Uncut .stores
+  pub all-stripes : PassedTests (commit S x logged plan Uncut) → Exactly (GuardedStripe S x) ss
+  pub all-partitions : PassedTests (commit S x logged plan Uncut) → Exactly (GuardedPartition x) ps
+  pub to-the-end : PassedTests (commit S x logged plan Uncut) → from + length ps + length ss ≡ commit S x logged plan Uncut .stores
