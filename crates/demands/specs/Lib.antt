@@ -6,3 +6,7 @@ pub mod Demand2
 -- histories with faults and cuts, and what meets the premises
 pub mod Struck
 pub mod Exhibits
+-- the stamps after every commit
+pub mod StampsAfter
+-- the guards after each store of a commit
+pub mod GuardsInTurn

@@ -46,7 +46,7 @@ take-map f (suc n) [] = refl
 take-map f (suc n) (a ∷ l) = ap (λ m. f a ∷ m) (take-map f n l)
 
 -- a member of a prefix
-mem-take : (n : ℕ) (l : List ℕ) (p : ℕ) → memb p (take n l) ≡ true → memb p l ≡ true
+pub mem-take : (n : ℕ) (l : List ℕ) (p : ℕ) → memb p (take n l) ≡ true → memb p l ≡ true
 mem-take zero l p m = clash {b = false} m refl
 mem-take (suc n) [] p m = m
 mem-take (suc n) (x ∷ l) p m =

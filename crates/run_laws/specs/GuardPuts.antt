@@ -2,9 +2,9 @@
 use mathlib.Core.Path.{_≡_, refl, sym, ap, _∙_}
 use mathlib.Core.Bool.{true, false}
 use mathlib.Core.List.{List, [], _∷_, _++_, map, append-assoc}
-use Prim.Native.Nat.{ℕ, zero, suc}
+use Prim.Native.Nat.{ℕ, zero, suc, _<_}
 use lib.ListN.{length, getD, set, length-set}
-use lib.Seq.{getD-set-other, ext-getD}
+use lib.Seq.{getD-set-same, getD-set-other, ext-getD}
 use lib.Dec.{eqb}
 use borrow.Author.Tests.{eqb-true, eqb-false}
 use Rattle.records.specs.Setters.{guarded}
@@ -43,6 +43,15 @@ module _ {A : Type 0} (z : A) where
       (λ e. rw (eqb-true p i e) (set-blank g i z))
       (λ e. getD-set-other g i p z z (eqb-false p i e) ∙ h (rw (e, n))))
 
+  -- a place that is named, or has v already, has v
+  pub set-all-there : (is : List ℕ) (g : List A) (v : A) (i : ℕ) → i < length g → (memb i is ≡ false → getD g i z ≡ v) → getD (setAll g is v) i z ≡ v
+  set-all-there [] g v i lt h = h refl
+  set-all-there (j ∷ js) g v i lt h =
+      set-all-there js (set g j v) v i (rw length-set lt) (λ n.
+      by (eqb i j)
+      (λ e. rw (eqb-true i j e) (getD-set-same g j v z (rw (eqb-true i j e) at lt)))
+      (λ e. getD-set-other g j i v z (eqb-false i j e) ∙ h (rw (e, n))))
+
   pub set-all-here : (is : List ℕ) (g : List A) (p : ℕ) → memb p is ≡ true → getD (setAll g is z) p z ≡ z
   set-all-here is g p m = set-all-blank is g p (λ n. clash m n)
 
@@ -61,12 +70,12 @@ set-back is g v z = ext-getD 0 _ _
     (set-all-long 0 is (setAll g is v) 0 ∙ set-all-long 0 is g v)
     (λ p lt. set-all-blank 0 is (setAll g is v) p (λ n. set-all-else 0 is g v p n ∙ all-zero g p z) ∙ sym (all-zero g p z))
 
-stripes-put : (is : List ℕ) (v : ℕ) (S : Store)
+pub stripes-put : (is : List ℕ) (v : ℕ) (S : Store)
     → applyAll (map (λ i. putStripe i v) is) S ≡ guarded (setAll (S .«stripe_guards») is v) (S .«partition_guards») S
 stripes-put [] v S = refl
 stripes-put (i ∷ is) v S = stripes-put is v (apply (putStripe i v) S)
 
-partitions-put : (is : List ℕ) (v : ℕ) (S : Store)
+pub partitions-put : (is : List ℕ) (v : ℕ) (S : Store)
     → applyAll (map (λ i. putPartition i v) is) S ≡ guarded (S .«stripe_guards») (setAll (S .«partition_guards») is v) S
 partitions-put [] v S = refl
 partitions-put (i ∷ is) v S = partitions-put is v (apply (putPartition i v) S)

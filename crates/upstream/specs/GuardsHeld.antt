@@ -4,21 +4,20 @@ use mathlib.Core.Bool.{Bool, true, false, not, _||_}
 use mathlib.Core.List.{List, [], _∷_, _++_, map}
 use Prim.Native.Nat.{ℕ, _<_}
 use native.Mathlib.Omega.{arith}
-use lib.ListN.{length, getD, set, length-set}
-use lib.Seq.{getD-set-same, getD-set-other}
+use lib.ListN.{getD}
 use lib.Dec.{eqb, ltb}
-use borrow.Author.Tests.{eqb-true, eqb-false, eq-eqb, ltb-true}
+use borrow.Author.Tests.{eqb-true, eq-eqb, ltb-true}
 use Rattle.records.specs.Limits.{rows}
 use Rattle.rules.specs.Types.{Store, Tx, Write, Schedule, Value, Absent, Key}
 use Rattle.basic_laws.specs.Cases.{by, clash, and-true, and-both, or-true, or-left, or-right, mem-here, mem-there}
 use Rattle.rules.specs.Lists.{all, flat, memb}
 use Rattle.rules.specs.Store.{posting, keyOf, stripeOf, partitionOf, sameValue}
 use Rattle.rules.specs.Transaction.{writesOf, finals}
-use Rattle.rules.specs.Puts.{Put, kStripe, kPartition, putStripe, putPartition, apply, applyAll}
+use Rattle.rules.specs.Puts.{Put, kStripe, kPartition, putStripe, putPartition, applyAll}
 use Rattle.rules.specs.Changes.{Change, changeOf, indexChanges, changes, postingIn, destinations, sources, stripesIn}
 use Rattle.rules.specs.Changes.{changedStripes, guardedStripes, guardedPartitions, indexGuards, partitionGuards}
 use Rattle.run_laws.specs.OnlyKinds.{only, only-map, kept, is-not}
-use Rattle.run_laws.specs.GuardPuts.{setAll, applyAll-append}
+use Rattle.run_laws.specs.GuardPuts.{setAll, set-all-there, stripes-put, partitions-put, applyAll-append}
 use Rattle.run_laws.specs.Released.{unguarded}
 use Rattle.run_laws.specs.Outcome.{guardsTaken}
 use Rattle.basic_laws.specs.Rearranged.{or-none}
@@ -26,24 +25,6 @@ use Rattle.basic_laws.specs.Rising.{mem-inOrder}
 use Rattle.posting_laws.specs.Pair.{key-of-posting}
 use Rattle.posting_laws.specs.Posted.{mem-append}
 use Rattle.posting_laws.specs.Undone.{Ready, rows-fit}
-
--- a place that is named, or has v already, has v
-set-there : (is g : List ℕ) (v i : ℕ) → i < length g → (memb i is ≡ false → getD g i 0 ≡ v) → getD (setAll g is v) i 0 ≡ v
-set-there [] g v i lt h = h refl
-set-there (j ∷ js) g v i lt h =
-    set-there js (set g j v) v i (rw length-set lt) (λ n.
-    by (eqb i j)
-    (λ e. rw (eqb-true i j e) (getD-set-same g j v 0 (rw (eqb-true i j e) at lt)))
-    (λ e. getD-set-other g j i v 0 (eqb-false i j e) ∙ h (rw (e, n))))
-
--- guards put
-stripes-set : (is : List ℕ) (v : ℕ) (T : Store) → applyAll (map (λ i. putStripe i v) is) T .«stripe_guards» ≡ setAll (T .«stripe_guards») is v
-stripes-set [] v T = refl
-stripes-set (i ∷ is) v T = stripes-set is v (apply (putStripe i v) T)
-
-partitions-set : (is : List ℕ) (v : ℕ) (T : Store) → applyAll (map (λ i. putPartition i v) is) T .«partition_guards» ≡ setAll (T .«partition_guards») is v
-partitions-set [] v T = refl
-partitions-set (i ∷ is) v T = partitions-set is v (apply (putPartition i v) T)
 
 -- the stripe of a posting's key is that of its value
 one-stripe : (p r : ℕ) (v : Value) → r < rows → memb p (postingIn r v) ≡ true → memb (stripeOf (keyOf p)) (stripesIn v) ≡ true
@@ -129,7 +110,7 @@ module _ (S : Store) (x : Tx) (logged : Bool) (plan : Schedule) (ok : Ready S x)
       ∙ ap (λ (T : Store). T .«stripe_guards») (applyAll-append G Q S)
       ∙ kept (λ T. T .«stripe_guards») ks (λ p T m. rw (is-not ks kStripe refl p m)) Q (applyAll G S)
       (only-map ks (λ i. putPartition i t) (guardedPartitions x) (λ i. refl))
-      ∙ stripes-set (guardedStripes (changes S x) x) t S
+      ∙ ap (λ (T : Store). T .«stripe_guards») (stripes-put (guardedStripes (changes S x) x) t S)
 
   partition-guards : during .«partition_guards» ≡ setAll (S .«partition_guards») (guardedPartitions x) t
   unfolding indexGuards partitionGuards
@@ -140,7 +121,7 @@ module _ (S : Store) (x : Tx) (logged : Bool) (plan : Schedule) (ok : Ready S x)
       ap (λ (T : Store). T .«partition_guards») (applyAll-append (G ++ Q) ps S)
       ∙ kept (λ T. T .«partition_guards») unguarded (λ p T m. rw (is-not unguarded kPartition refl p m)) ps (applyAll (G ++ Q) S) o
       ∙ ap (λ (T : Store). T .«partition_guards») (applyAll-append G Q S)
-      ∙ partitions-set (guardedPartitions x) t (applyAll G S)
+      ∙ ap (λ (T : Store). T .«partition_guards») (partitions-put (guardedPartitions x) t (applyAll G S))
       ∙ ap (λ (g : List ℕ). setAll g (guardedPartitions x) t)
       (kept (λ T. T .«partition_guards») js (λ p T m. rw (is-not js kPartition refl p m)) G S
       (only-map js (λ i. putStripe i t) (guardedStripes (changes S x) x) (λ i. refl)))
@@ -150,7 +131,7 @@ module _ (S : Store) (x : Tx) (logged : Bool) (plan : Schedule) (ok : Ready S x)
       → getD (during .«stripe_guards») (stripeOf (keyOf p)) 0 ≡ t
   keys-held p m =
       ap (λ (g : List ℕ). getD g (stripeOf (keyOf p)) 0) stripe-guards
-      ∙ set-there (guardedStripes (changes S x) x) (S .«stripe_guards») t (stripeOf (keyOf p)) (omega (arith, ok .sized .«stripe_guards»))
+      ∙ set-all-there 0 (guardedStripes (changes S x) x) (S .«stripe_guards») t (stripeOf (keyOf p)) (omega (arith, ok .sized .«stripe_guards»))
       (λ n. clash (guarded-stripe p m) n)
 
   -- the row partition of 002's `authorized`: the guard of each written row
@@ -160,5 +141,5 @@ module _ (S : Store) (x : Tx) (logged : Bool) (plan : Schedule) (ok : Ready S x)
       all-images (λ w. partitionOf (w .row .0)) (λ i. eqb (getD (during .«partition_guards») i 0) t) (writesOf x) (λ w m.
       let i = partitionOf (w .row .0) in
       eq-eqb (getD (during .«partition_guards») i 0) t (ap (λ (g : List ℕ). getD g i 0) partition-guards
-      ∙ set-there (guardedPartitions x) (S .«partition_guards») t i (omega (arith, ok .sized .«partition_guards»))
+      ∙ set-all-there 0 (guardedPartitions x) (S .«partition_guards») t i (omega (arith, ok .sized .«partition_guards»))
       (λ n. clash (rw (mem-inOrder, mem-append, m)) n)))
