@@ -6,18 +6,18 @@ use mathlib.Core.Logic.{_≢_, _⊎_, inl, inr, ⊎-elim, _↔_}
 use Prim.Native.Nat.{ℕ, zero, suc, _-_, _<_, _≤_, _%_}
 use native.Mathlib.Omega.{arith}
 use lib.ListN.{length, getD, take, length-reverse, List·getD-append}
-use lib.Seq.{getD-append-seam}
+use lib.Seq.{getD-append-seam, ext-getD}
 use lib.Dec.{eqb, ltb, leb}
 use borrow.Author.Tests.{eqb-true, eqb-false, eq-eqb, ne-eqb, ltb-true, ltb-false, lt-ltb, leb-true, le-leb, not-true}
 use Rattle.records.specs.Limits.{stripes}
 use Rattle.records.specs.Zero.{noWrite}
 use Rattle.rules.specs.Lists.{any, those, flat, nonzeroFrom, memb, rising, inOrder}
-use Rattle.rules.specs.Types.{Store, Tx, Write, Schedule}
+use Rattle.rules.specs.Types.{Store, Tx, Write, Schedule, Value}
 use Rattle.rules.specs.Store.{valueAt, sameValue, partitionOf, usedSlots, slotsInForm}
 use Rattle.rules.specs.Transaction.{writesOf, readsOf, indexReadsOf, finalWrites, finals}
 use Rattle.rules.specs.Chains.{walk, on}
 use Rattle.rules.specs.Admitted.{repairable}
-use Rattle.rules.specs.Puts.{Put, putStripe, putPartition, putInsert, putRemove, putFree, putDrop, putStamp, ownSlots, abortPuts}
+use Rattle.rules.specs.Puts.{Put, putStripe, putPartition, putInsert, putRemove, putFree, putDrop, putStamp, putPoison, ownSlots, abortPuts}
 use Rattle.rules.specs.Changes.{Change, changeOf, indexChanges, changes, postingIn, destinations, sources, stripesIn, changedStripes, guardedStripes}
 use Rattle.rules.specs.Changes.{guardedPartitions, indexGuards, partitionGuards, release, publishOne, insertions, removals, publication, recycled, recycling}
 use Rattle.rules.specs.Changes.{stamping}
@@ -35,7 +35,7 @@ use Rattle.statements.specs.StepWords.{GuardedPartition, Takes, LetsGo, Publish
 use Rattle.statements.specs.StepWords.{Leads, here, along, OnChain, OffChainOf, Recycled, FreesAndDrops, RollsBack, CleanRun}
 use Rattle.basic_laws.specs.Cases.{by, clash, iff, or-true, or-false, or-left, or-right, and-true, and-false, and-both, mem-here, mem-there}
 use Rattle.basic_laws.specs.Members.{at-mem, mem-those, mem-nonzero}
-use Rattle.basic_laws.specs.Rising.{rising-less, rising-from, mem-inOrder, rising-inOrder}
+use Rattle.basic_laws.specs.Rising.{rising-less, rising-from, rising-ext, mem-inOrder, rising-inOrder}
 use Rattle.basic_laws.specs.Places.{blank-at}
 use Rattle.basic_laws.specs.Chain.{IsChain}
 use Rattle.basic_laws.specs.Chained.{walk-sound}
@@ -714,3 +714,104 @@ module _ (S : Store) (x : Tx) (logged : Bool) (plan : Schedule) (q : plan .count
         lets-go = release-says S x;
         order = clean-stores free sound t11 t12 t13 t14 ∙ simp (append-assoc, append-nil);
       }
+
+-- ONE LIST ALONE: the words leave a definition no choice, so whatever list differs anywhere doesn't meet them
+
+rises-test : (lo : ℕ) (l : List ℕ) → Rises l → (0 < length l → lo ≤ getD l 0 0) → rising lo l ≡ true
+rises-test lo [] r h = refl
+rises-test lo (x ∷ l) r h =
+    and-both (leb lo x) (rising (suc x) l) (le-leb lo x (h (omega arith)))
+    (rises-test (suc x) l (λ a b lt lb. r (suc a) (suc b) (omega arith) (omega arith)) (λ k. r 0 1 (omega arith) (omega arith)))
+
+pub exactly-one : (P : ℕ → Type 0) (l m : List ℕ) → Exactly P l → Exactly P m → l ≡ m
+exactly-one P l m a b =
+    rising-ext 0 0 l m (rises-test 0 l (a .rises) (λ k. omega arith)) (rises-test 0 m (b .rises) (λ k. omega arith)) (λ i.
+    iff (memb i l) (memb i m) (λ h. b .members i .1 (a .members i .0 h)) (λ h. a .members i .1 (b .members i .0 h)))
+
+pub one-each-one : (P : ℕ → Type 0) (f : ℕ → Put) (ps qs : List Put) → OneEach P f ps → OneEach P f qs → ps ≡ qs
+one-each-one P f ps qs a b = a .puts ∙ ap (map f) (exactly-one P (a .places) (b .places) (a .exactly) (b .exactly)) ∙ sym (b .puts)
+
+pub finals-one : (ws fs gs : List Write) → FinalWrites ws fs → FinalWrites ws gs → fs ≡ gs
+finals-one ws fs gs a b =
+    a .writes ∙ ap (map (λ i. getD ws i noWrite)) (exactly-one (FinalAt ws) (a .places) (b .places) (a .exactly) (b .exactly)) ∙ sym (b .writes)
+
+pub in-turn-one : {A : Type 0} (P : Write → List A → Type 0) → ((w : Write) (l m : List A) → P w l → P w m → l ≡ m)
+    → (ws : List Write) (l m : List A) → InTurn P ws l → InTurn P ws m → l ≡ m
+in-turn-one P one [] l m a b = a ∙ sym b
+in-turn-one P one (w ∷ ws) l m a b =
+    let here = one w (a .0) (b .0) (a .3) (b .3) in
+    let there = in-turn-one P one ws (a .1) (b .1) (a .4) (b .4) in
+    a .2 ∙ rw (here, there) (sym (b .2))
+
+module _ (S : Store) where
+  pub posts-of-one : {A : Type 0} (side : Write → ℕ) (f : ℕ → A) (w : Write) (l m : List A) → PostsOf S side f w l → PostsOf S side f w m → l ≡ m
+  posts-of-one side f w l m a b = by (unchanged S w)
+      (λ e. let s = same-says S (w .base .0) (w .new .0) .0 e in a .same s ∙ sym (b .same s))
+      (λ e. by (getD (S .has) (side w) false)
+      (λ h. let k = getD (S .key) (side w) 0 in a .key k (differs S w e) (h, refl) ∙ sym (b .key k (differs S w e) (h, refl)))
+      (λ h. a .none h ∙ sym (b .none h)))
+
+  value-one : (p : ℕ) (u v : Value) → ValueIs S p u → ValueIs S p v → u ≡ v
+  value-one p u v a b = by (getD (S .has) p false)
+      (λ h. a .key (getD (S .key) p 0) (h, refl) ∙ sym (b .key (getD (S .key) p 0) (h, refl)))
+      (λ h. a .none h ∙ sym (b .none h))
+
+  pub changes-of-one : (w : Write) (l m : List Change) → ChangesOf S w l → ChangesOf S w m → l ≡ m
+  changes-of-one w l m a b = by (unchanged S w)
+      (λ e. let s = same-says S (w .base .0) (w .new .0) .0 e in a .same s ∙ sym (b .same s))
+      (λ e. let c = a .one (differs S w e) in
+      let d = b .one (differs S w e) in
+      let row = c .2 ∙ sym (d .2) in
+      let old = value-one (w .base .0) (c .0 .before) (d .0 .before) (c .3) (d .3) in
+      let new = value-one (w .new .0) (c .0 .after) (d .0 .after) (c .4) (d .4) in
+      let same : c .0 ≡ d .0 = λ i. record { row = row i; before = old i; after = new i } in
+      c .1 ∙ ap (λ (q : Change). q ∷ []) same ∙ sym (d .1))
+
+pub publishes-one-one : (t : ℕ) (w : Write) (l m : List Put) → PublishesOne t w l → PublishesOne t w m → l ≡ m
+publishes-one-one t w l m a b = by (eqb (w .base .0) 0)
+    (λ e. let z = eqb-true (w .base .0) 0 e in a .unbased z ∙ sym (b .unbased z))
+    (λ e. let z = eqb-false (w .base .0) 0 e in a .based z ∙ sym (b .based z))
+
+module _ (S : Store) (x : Tx) where
+  pub takes-one : (t : ℕ) (ps qs : List Put) → Takes S x t ps → Takes S x t qs → ps ≡ qs
+  takes-one t ps qs a b =
+      let i = one-each-one (GuardedStripe S x) (λ i. putStripe i t) (a .index) (b .index) (a .first) (b .first) in
+      let p = one-each-one (GuardedPartition x) (λ i. putPartition i t) (a .partition) (b .partition) (a .then) (b .then) in
+      a .both ∙ rw (i, p) (sym (b .both))
+
+  pub lets-go-one : (ps qs : List Put) → LetsGo S x ps → LetsGo S x qs → ps ≡ qs
+  lets-go-one ps qs a b =
+      let p = one-each-one (GuardedPartition x) (λ i. putPartition i 0) (a .partition) (b .partition) (a .first) (b .first) in
+      let i = one-each-one (GuardedStripe S x) (λ i. putStripe i 0) (a .index) (b .index) (a .then) (b .then) in
+      a .both ∙ rw (p, i) (sym (b .both))
+
+  pub frees-and-drops-one : (t : ℕ) (ps qs : List Put) → FreesAndDrops S t ps → FreesAndDrops S t qs → ps ≡ qs
+  frees-and-drops-one t ps qs a b =
+      a .then ∙ ap (λ (l : List Put). l ++ putDrop t ∷ []) (one-each-one (OffChainOf S t) putFree (a .frees) (b .frees) (a .first) (b .first)) ∙ sym (b .then)
+
+  -- so the words fix a clean commit's stores to the last one
+  pub clean-run-one : (ps qs : List Put) → CleanRun S x ps → CleanRun S x qs → ps ≡ qs
+  clean-run-one ps qs a b =
+      let t = x .txid .0 in
+      let e1 = takes-one t (a .taken) (b .taken) (a .takes) (b .takes) in
+      let e2 = in-turn-one (PostsOf S (λ w. w .new .0) putInsert) (posts-of-one S (λ w. w .new .0) putInsert) (finals x) (a .inserted) (b .inserted)
+      (a .inserts) (b .inserts) in
+      let e3 = in-turn-one (PostsOf S (λ w. w .base .0) putRemove) (posts-of-one S (λ w. w .base .0) putRemove) (finals x) (a .removed) (b .removed)
+      (a .removes) (b .removes) in
+      let e4 = in-turn-one (PublishesOne t) (publishes-one-one t) (finals x) (a .published) (b .published) (a .publishes) (b .publishes) in
+      let e5 = one-each-one (Recycled S x) putFree (a .freed) (b .freed) (a .frees) (b .frees) in
+      let e6 = one-each-one (ChangedStripe S x) (λ i. putStamp i t) (a .stamped) (b .stamped) (a .stamps) (b .stamps) in
+      let e7 = lets-go-one (a .released) (b .released) (a .lets-go) (b .lets-go) in
+      a .order ∙ rw (e1, e2, e3, e4, e5, e6, e7) (sym (b .order))
+
+pub rolls-back-one : (made : List ℕ) (already failed : Bool) (k : ℕ) (ps qs : List Put) → RollsBack made already failed k ps
+    → RollsBack made already failed k qs
+    → ps ≡ qs
+rolls-back-one made already failed k ps qs a b =
+    let back : a .back ≡ b .back = ext-getD 0 (a .back) (b .back) (a .reversed .long ∙ sym (b .reversed .long)) (λ i lt.
+    let lm : i < length made = omega (arith, lt, a .reversed .long) in a .reversed .turned i lm ∙ sym (b .reversed .turned i lm)) in
+    by failed
+    (λ f. by already
+    (λ y. a .poisoned f y ∙ ap (λ (l : List ℕ). take k (map putRemove l)) back ∙ sym (b .poisoned f y))
+    (λ y. a .some f y ∙ ap (λ (l : List ℕ). take k (map putRemove l) ++ putPoison ∷ []) back ∙ sym (b .some f y)))
+    (λ f. a .all f ∙ ap (map putRemove) back ∙ sym (b .all f))
