@@ -4,8 +4,10 @@ use mathlib.Core.Bool.{Bool, true, false, cond}
 use mathlib.Core.List.{List, [], _∷_, _++_}
 use mathlib.Core.Logic.{_↔_, _⊎_}
 use Prim.Native.Nat.{ℕ}
-use Rattle.rules.specs.Types.{Store, Tx, Refusal, Answer}
+use lib.ListN.{length}
+use Rattle.rules.specs.Types.{Store, Tx, Refusal, Events, Answer}
 use Rattle.rules.specs.Numbers.{numberOf}
+use Rattle.rules.specs.Puts.{Put, applyAll}
 use Rattle.rules.specs.Answer.{recordOf}
 
 -- none of these tests holds
@@ -13,16 +15,24 @@ abbrev pub None : List Bool → Type 0
 None [] = Unit {0}
 None (b ∷ bs) = (b ≡ false) × None bs
 
--- the columns "No.", "When" and "Afterwards"; the refusal has its fate inside
+-- first these stores, then those
+infixr 4 _⨾_
+abbrev pub _⨾_ : List Put → List Put → List Put
+ps ⨾ qs = ps ++ qs
+
+-- the columns "No.", "When" and "Afterwards", the refusal with its fate inside; between them all the stores that are made, in their order, the
+-- guards taken and let go among them; at the end the events
 pub record Row : Type 0 where
   pub number : ℕ
   pub when : Bool
   pub says : Refusal
+  pub makes : List Put
   pub store : Store
   pub tx : Tx
+  pub events : Events
 
-abbrev pub row : ℕ → Bool → Refusal → Store → Tx → Row
-row n b why T y = record { number = n; when = b; says = why; store = T; tx = y }
+abbrev pub row : ℕ → Bool → Refusal → List Put → Store → Tx → Events → Row
+row n b why ps T y e = record { number = n; when = b; says = why; makes = ps; store = T; tx = y; events = e }
 
 -- the first row that applies, d if none does
 abbrev pub firstRow : List Row → Row → Row
@@ -34,12 +44,16 @@ abbrev pub Reason : ℕ → List Bool → List Row → Row → Type 0
 Reason n before [] d = (n ≡ d .number) × None before
 Reason n before (r ∷ rs) d = ((n ≡ r .number) × None before × (r .when ≡ true)) ⊎ Reason n (before ++ r .when ∷ []) rs d
 
--- an answer is what a row says: its refusal, fate inside; "The record is zero unless 0"; store and transaction
-pub record Answers (x : Tx) (a : Answer) (w : Row) : Type 0 where
+-- an answer is what a row says: its refusal, fate inside; "The record is zero unless 0"; store and transaction; the store is the one at entry, S, with
+-- the row's stores made one after the other, so no guard, stamp or posting is otherwise than they leave it; their number; the events
+pub record Answers (S : Store) (x : Tx) (a : Answer) (w : Row) : Type 0 where
   pub refusal : a .refusal ≡ w .says
   pub «record» : a .«record» ≡ recordOf (w .says) x
   pub store : a .store ≡ w .store
+  pub made : a .store ≡ applyAll (w .makes) S
+  pub stores : a .stores ≡ length (w .makes)
   pub tx : a .tx ≡ w .tx
+  pub events : a .events ≡ w .events
 
 -- a line of a shorter table, whose refusals change nothing: the number, the refusal with its fate inside, and when it applies
 pub record Line : Type 0 where
