@@ -2,6 +2,7 @@
 pub mod TableLaws
 pub mod Column
 -- Every commit answers by the table of "Numbers seen".
+pub mod Recording
 pub mod Ended
 pub mod Called
 pub mod Stored

@@ -31,6 +31,7 @@ use Rattle.number_laws.specs.TableLaws.{same, told-by}
 use Rattle.statements.specs.NumbersSeen.{some, rows15, stepRows, doneRow, uncutRow, cutRow, commitRows}
 use Rattle.statements.specs.Sized.{Sized}
 use Rattle.posting_laws.specs.Rolled.{ready}
+use Rattle.number_laws.specs.Recording.{recorded, unrecorded}
 use Rattle.number_laws.specs.Ended.{rollback-failed, rollback-done, Match, one, two, stay, die}
 use Rattle.number_laws.specs.Called.{ten, ten-back, sixteen}
 use Rattle.number_laws.specs.Stored.{seventeen, eighteen, nineteen, twenty-one, twenty-two, passed}
@@ -107,7 +108,7 @@ module _ (S : Store) (x : Tx) (logged : Bool) (plan : Schedule) (z : Sized S) wh
         by-first =
             rw (run-gates S x logged plan) (record {
               refusal = m .says;
-              «record» = ap (λ (why : Refusal). recordOf why x) (m .says);
+              «record» = rw (sym (m .says)) (recorded _ x);
               store = m .store;
               made = ap (λ (ps : List Put). applyAll ps S) (m .makes);
               stores = ap length (m .makes);
@@ -126,7 +127,7 @@ module _ (S : Store) (x : Tx) (logged : Bool) (plan : Schedule) (z : Sized S) wh
       by (ltb n (length (runOf S x logged plan .puts)))
       (λ e. rw e (applies (sym same ∙ e) (record {
         refusal = refl;
-        «record» = refl;
+        «record» = unrecorded 18 x refl;
         store = ap (λ (ps : List Put). applyAll (take n ps) S) m;
         made = ap (λ (ps : List Put). applyAll (take n ps) S) m;
         stores = sym (length-take-le n (uncutRow S x logged plan .makes) (omega (arith, ltb-true n (length (uncutRow S x logged plan .makes)) (sym same ∙ e))));
@@ -146,11 +147,11 @@ module _ (S : Store) (x : Tx) (logged : Bool) (plan : Schedule) (z : Sized S) wh
       let ok : Admitted S x plan = record { rests = r; fits = g .0; planned = g .1; active = m } in
       skips (rw m) (rw (admitted S x logged plan cut ok) (steps-told ok cut)))
       (λ m. applies (rw m) (rw (row-3 S x logged plan cut r f m)
-      (record { refusal = refl; «record» = refl; store = refl; made = refl; stores = refl; tx = refl; events = refl })))))
+      (record { refusal = refl; «record» = unrecorded 3 x refl; store = refl; made = refl; stores = refl; tx = refl; events = refl })))))
       (λ f. applies (rw f) (rw (row-2 S x logged plan cut r f)
-      (record { refusal = refl; «record» = refl; store = refl; made = refl; stores = refl; tx = refl; events = refl })))))
+      (record { refusal = refl; «record» = unrecorded 2 x refl; store = refl; made = refl; stores = refl; tx = refl; events = refl })))))
       (λ r. applies (rw r)
-      (rw (row-1 S x logged plan cut r) (record { refusal = refl; «record» = refl; store = refl; made = refl; stores = refl; tx = refl; events = refl })))
+      (rw (row-1 S x logged plan cut r) (record { refusal = refl; «record» = unrecorded 1 x refl; store = refl; made = refl; stores = refl; tx = refl; events = refl })))
 
   -- each row's refusal has the row's number; by itself, so that what compares rows needn't open them
   pub rows-same : (cut : Cut) → all same (commitRows S x logged plan cut) ≡ true
