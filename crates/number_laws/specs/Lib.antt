@@ -10,3 +10,4 @@ pub mod Seen
 -- What follows.
 pub mod Reasons
 pub mod Fates
+pub mod Counts

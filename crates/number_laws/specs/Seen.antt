@@ -117,6 +117,10 @@ module _ (S : Store) (x : Tx) (logged : Bool) (plan : Schedule) (z : Sized S) wh
             });
       }
 
+  -- a commit that comes to the steps and isn't cut
+  pub uncut-told : Admitted S x plan → Answers S x (commit S x logged plan Uncut) (uncutRow S x logged plan)
+  uncut-told ok = rw (admitted S x logged plan Uncut ok) (whole-told ok .by-first)
+
   steps-told : Admitted S x plan → (cut : Cut) → Told (answer S x logged (runOf S x logged plan) cut) (cutRow S x logged plan cut ∷ stepRows S x logged plan)
   unfolding cutOff recordOf noEvents eventsOf
   steps-told ok Uncut = skips refl (whole-told ok)
@@ -151,7 +155,8 @@ module _ (S : Store) (x : Tx) (logged : Bool) (plan : Schedule) (z : Sized S) wh
       (λ f. applies (rw f) (rw (row-2 S x logged plan cut r f)
       (record { refusal = refl; «record» = unrecorded 2 x refl; store = refl; made = refl; stores = refl; tx = refl; events = refl })))))
       (λ r. applies (rw r)
-      (rw (row-1 S x logged plan cut r) (record { refusal = refl; «record» = unrecorded 1 x refl; store = refl; made = refl; stores = refl; tx = refl; events = refl })))
+      (rw (row-1 S x logged plan cut r)
+      (record { refusal = refl; «record» = unrecorded 1 x refl; store = refl; made = refl; stores = refl; tx = refl; events = refl })))
 
   -- each row's refusal has the row's number; by itself, so that what compares rows needn't open them
   pub rows-same : (cut : Cut) → all same (commitRows S x logged plan cut) ≡ true
