@@ -11,3 +11,5 @@ pub mod Seen
 pub mod Reasons
 pub mod Fates
 pub mod Counts
+pub mod Ignored
+pub mod Unheld

@@ -7,6 +7,7 @@ pub mod CallsSay
 pub mod ReadsSay
 -- "Steps and faults"
 pub mod StepsSay
+pub mod FaultsSay
 -- "Replay"
 pub mod ReplaySays
 -- "Mornings at a limit" and the example of "Replay", computed

@@ -13,6 +13,7 @@ pub mod ShowWords
 pub mod Table
 pub mod NumbersSeen
 pub mod CountWords
+pub mod FaultWords
 pub mod OtherNumbers
 -- The three demands.
 pub mod Demands

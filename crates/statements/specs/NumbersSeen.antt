@@ -1,9 +1,11 @@
 -- "Numbers seen" for a commit, as one table in upstream's order: when each number is answered, with which fate, which stores are made, in their
 -- order, what store and transaction are afterwards, and which events are told. A row applies where none before it does.
+use mathlib.Core.Path.{_≡_}
+use mathlib.Core.Logic.{_≢_}
 use mathlib.Core.Bool.{Bool, true, false, not, cond, _&&_, _||_}
 use mathlib.Core.List.{List, [], _∷_, _++_, map, reverse}
 use Prim.Native.Nat.{ℕ}
-use lib.ListN.{length, take, drop}
+use lib.ListN.{length, getD, take, drop}
 use lib.Dec.{ltb, leb}
 use Rattle.records.specs.Zero.{onlyTxid, zeroTx}
 use Rattle.rules.specs.Lists.{memb}
@@ -18,7 +20,9 @@ use Rattle.rules.specs.Faults.{B, P, X, Q, scheduleFit}
 use Rattle.rules.specs.Puts.{Put, putInsert, putRemove, putDrop, putPoison, putDoom, apply, applyAll, abortPuts}
 use Rattle.rules.specs.Tests.{indexReadConflict, rowLockConflict, serializationConflict, writeBaseConflict}
 use Rattle.rules.specs.Changes.{changes, destinations, indexGuards, partitionGuards, insertions, removals, publication, recycling, stamping}
-use Rattle.rules.specs.Commit.{strikes, fails, count, unloggedWrites}
+use Rattle.rules.specs.Commit.{strikes, fails, count}
+use Rattle.rules.specs.Numbers.{numberOf}
+use Rattle.rules.specs.Answer.{commit}
 use Rattle.statements.specs.Table.{_⨾_, Row, row, firstRow}
 
 module _ (S : Store) (x : Tx) (logged : Bool) (plan : Schedule) where
@@ -31,6 +35,10 @@ module _ (S : Store) (x : Tx) (logged : Bool) (plan : Schedule) where
 
   abbrev pub firstOf : ℕ → List Put → List Put
   firstOf n ps = take (count S x logged plan n) ps
+
+  -- 9 is "unlogged with writes only"
+  abbrev pub unlogged : Bool
+  unlogged = not logged && ltb 0 (length (finals x))
 
   -- guards "taken index first, released partition first"; at step 8 the index guards alone are held
   abbrev pub takesIndex : List Put
@@ -237,8 +245,8 @@ module _ (S : Store) (x : Tx) (logged : Bool) (plan : Schedule) where
       ∷ stays 7 takesIndex letsIndexGo 4 StepFailed (failed 8)
       ∷ unaborted 7 takesIndex letsIndexGo false 7 Conflict (struckBy 8 B)
       ∷ aborts 7 takesIndex letsIndexGo false 7 Conflict (struckBy 8 B)
-      ∷ stays 8 takes letsGo 4 StepFailed (unloggedWrites S x logged plan && failed 9)
-      ∷ stays 8 takes letsGo 8 BoundDurably (unloggedWrites S x logged plan && S .bound)
+      ∷ stays 8 takes letsGo 4 StepFailed (unlogged && failed 9)
+      ∷ stays 8 takes letsGo 8 BoundDurably (unlogged && S .bound)
       ∷ unaborted 9 takes letsGo false 19 CleanupFailed (failed 10 || S .poisoned)
       ∷ aborts 9 takes letsGo (not (failed 10)) 9 FoundPoisoned (failed 10 || S .poisoned)
       ∷ stays 10 takes letsGo 4 StepFailed (failed 11)
@@ -283,3 +291,12 @@ module _ (S : Store) (x : Tx) (logged : Bool) (plan : Schedule) where
       ∷ row 3 (not (memb (x .txid .0) (activeTxids (S .active)))) (NotActive Closed) [] S x silent
       ∷ cutRow cut
       ∷ stepRows
+
+-- "Every commit answer but 1 and 18 leaves no guard held."
+pub record Unguarded (T : Store) : Type 0 where
+  pub stripes : (i : ℕ) → getD (T .«stripe_guards») i 0 ≡ 0
+  pub partitions : (i : ℕ) → getD (T .«partition_guards») i 0 ≡ 0
+
+abbrev pub NoGuardHeld : Type 0
+NoGuardHeld = (S : Store) (x : Tx) (logged : Bool) (plan : Schedule) (cut : Cut) → let a = commit S x logged plan cut in
+    numberOf (a .refusal) ≢ 1 → numberOf (a .refusal) ≢ 18 → Unguarded (a .store)
