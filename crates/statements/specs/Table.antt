@@ -69,6 +69,14 @@ pub record Answers (S : Store) (x : Tx) (a : Answer) (w : Row) : Type 0 where
   pub tx : a .tx ≡ w .tx
   pub events : a .events ≡ w .events
 
+-- the same without what the stores add up to, and without the record: this much is read off the steps one by one
+pub record Says (S : Store) (a : Answer) (w : Row) : Type 0 where
+  pub refusal : a .refusal ≡ w .says
+  pub made : a .store ≡ applyAll (w .makes) S
+  pub stores : a .stores ≡ length (w .makes)
+  pub tx : a .tx ≡ w .tx
+  pub events : a .events ≡ w .events
+
 -- a line of a shorter table, whose refusals change nothing: the number, the refusal with its fate inside, and when it applies
 pub record Line : Type 0 where
   pub number : ℕ
