@@ -6,22 +6,21 @@ use Prim.Native.Nat.{ℕ, _+_, _*_, min}
 use native.Mathlib.Omega.{arith}
 use lib.ListN.{length, take, length-append, length-map, length-take, length-reverse}
 use Rattle.basic_laws.specs.Cases.{by}
-use Rattle.rules.specs.Types.{Store, Tx, Schedule, Cut, Uncut}
+use Rattle.rules.specs.Types.{Store, Tx, Schedule, Answer, Uncut}
 use Rattle.rules.specs.Transaction.{finals}
 use Rattle.rules.specs.Faults.{X, Q}
 use Rattle.rules.specs.Puts.{Put, putFree, putRemove, abortPuts}
 use Rattle.rules.specs.Changes.{changes, indexGuards, partitionGuards, insertions, removals, publication, recycling, stamping}
 use Rattle.rules.specs.Commit.{fails, count}
-use Rattle.rules.specs.Answer.{commit}
-use Rattle.run_laws.specs.FirstRows.{publish-length}
-use Rattle.statements.specs.Sized.{Sized}
+use Rattle.rules.specs.Answer.{uncut, commit}
 use Rattle.statements.specs.Words.{Admitted}
 use Rattle.statements.specs.Table.{Row, firstRow}
 use Rattle.statements.specs.NumbersSeen.{takes, letsGo, takesIndex, letsIndexGo, frees, poisonsUnless}
 use Rattle.statements.specs.NumbersSeen.{poisons, finishes, takesOut, firstOf, some, whole, struckBy}
 use Rattle.statements.specs.NumbersSeen.{stepRows, doneRow}
 use Rattle.statements.specs.CountWords.{g, q, i, r, f, b, n, s, a, p, d, k, both, stepCounts, cleanCount, beside, Counted}
-use Rattle.number_laws.specs.Seen.{uncut-told}
+use Rattle.sentences.specs.RunSays.{run-says}
+use Rattle.run_laws.specs.FirstRows.{publish-length, admitted}
 
 -- rows and their numbers side by side
 record Along (ws : List Row) (cs : List ℕ) : Type 0 where
@@ -159,8 +158,9 @@ module _ (S : Store) (x : Tx) (logged : Bool) (plan : Schedule) where
   counted = (step-counts .all, clean-count)
 
   -- and so does every commit that comes to the steps and isn't cut
-  pub commit-counted : Sized S → Admitted S x plan
+  pub commit-counted : Admitted S x plan
       → commit S x logged plan Uncut .stores ≡ beside (stepRows S x logged plan) (stepCounts S x logged plan) (cleanCount S x logged plan)
-  commit-counted z ok =
-      uncut-told S x logged plan z ok .stores ∙ step-counts .first (doneRow S x logged plan)
-      ∙ ap (beside (stepRows S x logged plan) (stepCounts S x logged plan)) clean-count
+  unfolding uncut
+  commit-counted ok =
+      ap (λ (a : Answer). a .stores) (admitted S x logged plan Uncut ok) ∙ ap length (run-says S x logged plan .makes)
+      ∙ step-counts .first (doneRow S x logged plan) ∙ ap (beside (stepRows S x logged plan) (stepCounts S x logged plan)) clean-count

@@ -1,11 +1,10 @@
--- Each ending of a run beside its rows of "Numbers seen": refusal, store and transaction are the row's.
+-- Each ending of a run beside its rows of "Numbers seen": its stores add up to the row's store.
 use mathlib.Core.Path.{_≡_, refl, sym, ap, subst, _∙_}
 use mathlib.Core.Bool.{Bool, true, false, cond, _&&_}
 use mathlib.Core.List.{List, [], _∷_, _++_, map, reverse, append-assoc}
 use Prim.Native.Nat.{ℕ}
 use lib.ListN.{take}
 use Rattle.rules.specs.Types.{Store, Tx, Schedule, Events, Fate, Refusal}
-use Rattle.basic_laws.specs.Cases.{and-false}
 use Rattle.rules.specs.Admitted.{resting}
 use Rattle.rules.specs.Puts.{Put, putRemove, putPoison, apply, applyAll, abortPuts}
 use Rattle.rules.specs.Commit.{End, Clean, Run, poison, fails, count, rollback, abortOrPoison}
@@ -14,9 +13,7 @@ use Rattle.run_laws.specs.GuardPuts.{applyAll-append}
 use Rattle.run_laws.specs.Outcome.{Taken}
 use Rattle.run_laws.specs.FirstRows.{given-back}
 use Rattle.run_laws.specs.Gates.{Gate, first, stayEnd, abortEnd, dying}
-use Rattle.rules.specs.Answer.{eventsOf}
-use Rattle.run_laws.specs.EventLaws.{ev}
-use Rattle.basic_laws.specs.Rearranged.{or-none, or-comm, and-comm}
+use Rattle.sentences.specs.RunSays.{abort-failed, abort-done}
 use Rattle.statements.specs.Table.{Row, row, firstRow}
 use Rattle.statements.specs.NumbersSeen.{poisoned, aborted, gone, stays, unaborted, aborts}
 
@@ -29,33 +26,9 @@ poison-once T = go (T .poisoned) refl
     go false e = refl
 
 module _ (S : Store) (x : Tx) (logged : Bool) (plan : Schedule) where
-  -- abort and rollback, done or failed
-  pub abort-failed : (b : Bool) → fails S x logged plan 23 ≡ true → abortOrPoison S x logged plan b ≡ record { puts = poison b; tx = x; failed = true }
-  unfolding abortOrPoison
-  abort-failed b e = rw e
-
-  pub abort-done : (b : Bool) → fails S x logged plan 23 ≡ false
-      → abortOrPoison S x logged plan b ≡ record { puts = abortPuts S (x .txid .0); tx = gone S x logged plan; failed = false }
-  unfolding abortOrPoison
-  abort-done b e = rw e
-
-  pub rollback-failed : (b : Bool) (made : List ℕ) → fails S x logged plan 24 ≡ true
-      → rollback S x logged plan b made ≡ record { puts = take (count S x logged plan 24) (map putRemove (reverse made)) ++ poison b; tx = x; failed = true }
-  unfolding rollback
-  rollback-failed b made e = rw e
-
-  pub rollback-done : (b : Bool) (made : List ℕ) → fails S x logged plan 24 ≡ false
-      → rollback S x logged plan b made ≡ record { puts = map putRemove (reverse made); tx = x; failed = false }
-  unfolding rollback
-  rollback-done b made e = rw e
-
-  -- a run of the steps beside a row
+  -- a run of the steps beside a row: what its stores add up to
   pub record Agree (r : Run) (w : Row) : Type 0 where
-    pub says : r .end .refusal ≡ w .says
-    pub makes : r .puts ≡ w .makes
     pub store : applyAll (r .puts) S ≡ w .store
-    pub tx : r .end .tx ≡ w .tx
-    pub events : ev S x logged plan (r .passed) (r .end) ≡ w .events
 
   abbrev pub ran : ℕ → List Put → End → Run
   ran n ps d = record { passed = n; puts = ps; end = d }
@@ -99,8 +72,7 @@ module _ (S : Store) (x : Tx) (logged : Bool) (plan : Schedule) where
     pub stay : (b : Bool) (kind : Fate → Refusal) (m : ℕ) {n : ℕ} {taken back : List Put} {gs : List Gate} {c : Run} {ws : List Row} {d : Row}
         → Taken S x logged plan taken back → (b ≡ false → Match gs c ws d)
         → Match (gate b (ran m (taken ++ back) (stayEnd S x logged plan kind)) ∷ gs) c (stays S x logged plan m taken back n kind b ∷ ws) d
-    unfolding eventsOf
-    stay b kind m t next = one b (record { says = refl; makes = refl; store = given-back S x logged plan rest t; tx = refl; events = refl }) next
+    stay b kind m t next = one b (record { store = given-back S x logged plan rest t }) next
 
     -- 5, 6, 7 and 9: .. and then aborted, or not
     then-only : {taken back : List Put} → Taken S x logged plan taken back → (ps : List Put) → applyAll (taken ++ (back ++ ps)) S ≡ applyAll ps S
@@ -111,23 +83,11 @@ module _ (S : Store) (x : Tx) (logged : Bool) (plan : Schedule) where
         → Taken S x logged plan taken back → (b ≡ false → Match gs c ws d)
         → Match (gate b (ran m (taken ++ (back ++ dying S x logged plan)) (abortEnd S x logged plan kind other found preparing)) ∷ gs) c
         (unaborted S x logged plan m taken back preparing n other b ∷ aborts S x logged plan m taken back found k kind b ∷ ws) d
-    unfolding eventsOf
     die b kind other found preparing m {taken = taken} {back = back} t next =
         two b (fails S x logged plan 23)
-        (λ e. let a = abort-failed (S .poisoned) e in
-        record {
-          says = rw a;
-          makes = ap (λ (c : Clean). taken ++ (back ++ c .puts)) a;
-          store = then-only t (dying S x logged plan) ∙ ap (λ (c : Clean). applyAll (c .puts) S) a ∙ poison-once S;
-          tx = rw a;
-          events = rw (a, or-comm found true, and-comm preparing true);
+        (λ e. record {
+          store =
+              then-only t (dying S x logged plan) ∙ ap (λ (c : Clean). applyAll (c .puts) S) (abort-failed S x logged plan (S .poisoned) e) ∙ poison-once S;
         })
-        (λ e. let a = abort-done (S .poisoned) e in
-        record {
-          says = rw a;
-          makes = ap (λ (c : Clean). taken ++ (back ++ c .puts)) a;
-          store = then-only t (dying S x logged plan) ∙ ap (λ (c : Clean). applyAll (c .puts) S) a;
-          tx = rw a;
-          events = rw (a, or-none found, and-false preparing);
-        })
+        (λ e. record { store = then-only t (dying S x logged plan) ∙ ap (λ (c : Clean). applyAll (c .puts) S) (abort-done S x logged plan (S .poisoned) e) })
         next

@@ -46,7 +46,3 @@ recorded why x = by (eqb (numberOf why) 0)
       committed = λ h. clash (eq-eqb (numberOf why) 0 h) e;
       refused = λ _. zero-named;
     }))
-
--- a record that is zero, of a refusal that isn't 0
-pub unrecorded : (n : ℕ) (x : Tx) → eqb n 0 ≡ false → Recorded n x noRecord
-unrecorded n x e = record { committed = λ h. clash (eq-eqb n 0 h) e; refused = λ _. zero-named }

@@ -108,21 +108,21 @@ module _ (S : Store) (x : Tx) (logged : Bool) (plan : Schedule) where
   passes h m = record { are = rw h (m .are) }
 
   -- abort and rollback, done or failed
-  abort-failed : (b : Bool) → fails S x logged plan 23 ≡ true → abortOrPoison S x logged plan b ≡ record { puts = poison b; tx = x; failed = true }
+  pub abort-failed : (b : Bool) → fails S x logged plan 23 ≡ true → abortOrPoison S x logged plan b ≡ record { puts = poison b; tx = x; failed = true }
   unfolding abortOrPoison
   abort-failed b e = rw e
 
-  abort-done : (b : Bool) → fails S x logged plan 23 ≡ false
+  pub abort-done : (b : Bool) → fails S x logged plan 23 ≡ false
       → abortOrPoison S x logged plan b ≡ record { puts = abortPuts S t; tx = gone S x logged plan; failed = false }
   unfolding abortOrPoison
   abort-done b e = rw e
 
-  rollback-failed : (b : Bool) (made : List ℕ) → fails S x logged plan 24 ≡ true
+  pub rollback-failed : (b : Bool) (made : List ℕ) → fails S x logged plan 24 ≡ true
       → rollback S x logged plan b made ≡ record { puts = take (count S x logged plan 24) (map putRemove (reverse made)) ++ poison b; tx = x; failed = true }
   unfolding rollback
   rollback-failed b made e = rw e
 
-  rollback-done : (b : Bool) (made : List ℕ) → fails S x logged plan 24 ≡ false
+  pub rollback-done : (b : Bool) (made : List ℕ) → fails S x logged plan 24 ≡ false
       → rollback S x logged plan b made ≡ record { puts = map putRemove (reverse made); tx = x; failed = false }
   unfolding rollback
   rollback-done b made e = rw e
