@@ -11,5 +11,4 @@ pub mod Seen
 pub mod Reasons
 pub mod Fates
 pub mod Counts
-pub mod Ignored
 pub mod Unheld

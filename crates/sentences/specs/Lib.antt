@@ -8,6 +8,7 @@ pub mod ReadsSay
 -- "Steps and faults"
 pub mod StepsSay
 pub mod FaultsSay
+pub mod FaultsUnheeded
 pub mod RunSays
 -- "Replay"
 pub mod ReplaySays

@@ -3,11 +3,11 @@ use mathlib.Core.Path.{_≡_}
 use mathlib.Core.Bool.{Bool, true, false}
 use mathlib.Core.List.{List}
 use mathlib.Core.Logic.{_↔_, _≢_}
-use Prim.Native.Nat.{ℕ}
+use Prim.Native.Nat.{ℕ, suc, _≤_}
 use lib.ListN.{take}
 use Rattle.rules.specs.Types.{Store, Tx, Fault, Schedule, Cut}
 use Rattle.rules.specs.Faults.{scheduleFit}
-use Rattle.rules.specs.Commit.{strikes, count}
+use Rattle.rules.specs.Commit.{strikes, count, runOf}
 use Rattle.rules.specs.Answer.{commit}
 use Rattle.statements.specs.Words.{Some}
 
@@ -30,7 +30,16 @@ pub record AlikeAt (S : Store) (x : Tx) (logged : Bool) (plan other : Schedule) 
   pub letters : (c : ℕ) → strikes S x logged plan n c ≡ strikes S x logged other n c
   pub k : count S x logged plan n ≡ count S x logged other n
 
--- "20 flush F, ignored": schedules that agree but for step 20 are answered alike, if both are fit or both unfit
+-- "any fault strikes .. never at a step not reached", and "20 flush F, ignored": schedules that agree about the steps that the run of the first comes
+-- to (those passed and one more), 20 left aside, and about the finish, abort and rollback that a failed step may come to, are answered alike, if both are
+-- fit or both unfit
+abbrev pub NeverBeyond : Type 0
+NeverBeyond = (S : Store) (x : Tx) (logged : Bool) (plan other : Schedule) (cut : Cut)
+    → scheduleFit plan ≡ scheduleFit other → ((n : ℕ) → n ≤ suc (runOf S x logged plan .passed) → n ≢ 20 → AlikeAt S x logged plan other n)
+    → AlikeAt S x logged plan other 21 → AlikeAt S x logged plan other 23 → AlikeAt S x logged plan other 24
+    → commit S x logged plan cut ≡ commit S x logged other cut
+
+-- "20 flush F, ignored", by itself
 abbrev pub FlushIgnored : Type 0
 FlushIgnored = (S : Store) (x : Tx) (logged : Bool) (plan other : Schedule) (cut : Cut)
     → scheduleFit plan ≡ scheduleFit other → ((n : ℕ) → n ≢ 20 → AlikeAt S x logged plan other n)
