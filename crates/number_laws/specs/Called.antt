@@ -7,22 +7,21 @@ use lib.ListN.{length, take}
 use lib.Seq.{take-length}
 use lib.Dec.{eqb}
 use borrow.Author.Tests.{eqb-true}
-use Rattle.rules.specs.Types.{Store, Tx, Schedule, Fate, Undone, Refusal, CallbackFailed, CallbackPanicked, CleanupFailed}
+use Rattle.rules.specs.Types.{Store, Tx, Schedule, Fate, Refusal, CallbackFailed, CallbackPanicked, CleanupFailed}
 use Rattle.basic_laws.specs.Cases.{by, clash, and-false}
 use Rattle.rules.specs.Faults.{F, P, X, Q, faultsOf, faultAt}
-use Rattle.rules.specs.Numbers.{fate}
 use Rattle.rules.specs.Puts.{Put, putInsert, putRemove, putPoison, applyAll}
 use Rattle.rules.specs.Changes.{changes, destinations, release, insertions}
 use Rattle.rules.specs.Commit.{Clean, Run, poison, fails, strikes, count, rollback, abortOrPoison}
 use Rattle.run_laws.specs.OnlyKinds.{only, only-both, only-take, only-if}
 use Rattle.run_laws.specs.GuardPuts.{applyAll-append}
-use Rattle.run_laws.specs.Outcome.{guardsTaken, afterInsert, worse, panics, rollingBack, undoing, abortingLate}
+use Rattle.run_laws.specs.Outcome.{guardsTaken, afterInsert, worse, panics, rollingBack, undoing}
 use Rattle.run_laws.specs.Released.{unguarded}
 use Rattle.run_laws.specs.Gates.{Gate, callEnd, leaving, part}
 use Rattle.statements.specs.Table.{Row}
-use Rattle.statements.specs.NumbersSeen.{poisoned, aborted, with, left, some, whole, gone, called}
+use Rattle.statements.specs.NumbersSeen.{poisoned, aborted, with, left, some, whole, called}
 use Rattle.statements.specs.Sized.{Sized}
-use Rattle.basic_laws.specs.Rearranged.{or-none, or-comm}
+use Rattle.basic_laws.specs.Rearranged.{or-none}
 use Rattle.run_laws.specs.Kinds.{insert-kind, remove-kind, insertions-kind, cleaning-kinds, rollback-kinds}
 use Rattle.posting_laws.specs.Undone.{Ready, take-map, undone-but}
 use Rattle.posting_laws.specs.Aside.{postingKinds, between-guards, poison-first}

@@ -4,13 +4,13 @@ use mathlib.Core.Bool.{Bool, true, false, cond}
 use mathlib.Core.List.{List, [], _∷_, _++_, map, reverse}
 use Prim.Native.Nat.{ℕ, _+_, _*_, min}
 use native.Mathlib.Omega.{arith}
-use lib.ListN.{length, take, length-append, length-map, length-take, length-reverse}
+use lib.ListN.{length, length-append, length-map, length-take, length-reverse}
 use Rattle.basic_laws.specs.Cases.{by}
 use Rattle.rules.specs.Types.{Store, Tx, Schedule, Answer, Uncut}
 use Rattle.rules.specs.Transaction.{finals}
 use Rattle.rules.specs.Faults.{X, Q}
-use Rattle.rules.specs.Puts.{Put, putFree, putRemove, abortPuts}
-use Rattle.rules.specs.Changes.{changes, indexGuards, partitionGuards, insertions, removals, publication, recycling, stamping}
+use Rattle.rules.specs.Puts.{Put, putRemove, abortPuts}
+use Rattle.rules.specs.Changes.{indexGuards, partitionGuards, insertions, removals, publication, recycling, stamping}
 use Rattle.rules.specs.Commit.{fails, count}
 use Rattle.rules.specs.Answer.{uncut, commit}
 use Rattle.statements.specs.Words.{Admitted}

@@ -1,13 +1,12 @@
 -- Each ending of a run beside its rows of "Numbers seen": its stores add up to the row's store.
 use mathlib.Core.Path.{_≡_, refl, sym, ap, subst, _∙_}
 use mathlib.Core.Bool.{Bool, true, false, cond, _&&_}
-use mathlib.Core.List.{List, [], _∷_, _++_, map, reverse, append-assoc}
+use mathlib.Core.List.{List, [], _∷_, _++_, append-assoc}
 use Prim.Native.Nat.{ℕ}
-use lib.ListN.{take}
 use Rattle.rules.specs.Types.{Store, Tx, Schedule, Events, Fate, Refusal}
 use Rattle.rules.specs.Admitted.{resting}
-use Rattle.rules.specs.Puts.{Put, putRemove, putPoison, apply, applyAll, abortPuts}
-use Rattle.rules.specs.Commit.{End, Clean, Run, poison, fails, count, rollback, abortOrPoison}
+use Rattle.rules.specs.Puts.{Put, putPoison, apply, applyAll}
+use Rattle.rules.specs.Commit.{End, Clean, Run, poison, fails}
 use Rattle.run_laws.specs.OnlyKinds.{only}
 use Rattle.run_laws.specs.GuardPuts.{applyAll-append}
 use Rattle.run_laws.specs.Outcome.{Taken}
@@ -15,7 +14,7 @@ use Rattle.run_laws.specs.FirstRows.{given-back}
 use Rattle.run_laws.specs.Gates.{Gate, first, stayEnd, abortEnd, dying}
 use Rattle.sentences.specs.RunSays.{abort-failed, abort-done}
 use Rattle.statements.specs.Table.{Row, row, firstRow}
-use Rattle.statements.specs.NumbersSeen.{poisoned, aborted, gone, stays, unaborted, aborts}
+use Rattle.statements.specs.NumbersSeen.{poisoned, aborted, stays, unaborted, aborts}
 
 -- "Poisoning a poisoned store makes no store."
 poison-once : (T : Store) → applyAll (poison (T .poisoned)) T ≡ apply putPoison T

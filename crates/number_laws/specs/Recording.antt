@@ -1,19 +1,17 @@
 -- "The record is zero unless 0", place by place.
-use mathlib.Core.Path.{_≡_, refl, ap, _∙_}
-use mathlib.Core.Bool.{true, false}
+use mathlib.Core.Path.{_≡_, refl}
 use mathlib.Core.List.{List, [], _∷_}
 use Prim.Native.Nat.{ℕ, zero, suc, _<_}
 use native.Mathlib.Nat.{not-suc-le-zero, le-of-suc-le-suc}
-use native.Mathlib.Omega.{arith}
-use lib.ListN.{length, getD, replicate, length-replicate, getD-replicate}
+use lib.ListN.{getD, length-replicate, getD-replicate}
 use lib.Dec.{eqb}
-use borrow.Author.Tests.{eqb-true, eqb-false, eq-eqb, ne-eqb}
+use borrow.Author.Tests.{eqb-true, eq-eqb}
 use Rattle.basic_laws.specs.Cases.{by, clash}
 use Rattle.basic_laws.specs.LaidOut.{pad-length}
 use Rattle.rules.specs.Lists.{pad}
-use Rattle.rules.specs.Types.{Tx, Write, Refusal, Record}
+use Rattle.rules.specs.Types.{Tx, Refusal}
 use Rattle.rules.specs.Transaction.{finals}
-use Rattle.rules.specs.Numbers.{numberOf, isDone}
+use Rattle.rules.specs.Numbers.{numberOf}
 use Rattle.rules.specs.Answer.{noRecord, recordOf}
 use Rattle.statements.specs.Table.{zeroWrite, Names, Recorded}
 

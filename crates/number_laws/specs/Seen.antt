@@ -1,15 +1,12 @@
 -- "Numbers seen": a commit answers as the first row of the table says that applies, with that row's fate, store and transaction.
 use mathlib.Core.Path.{_≡_, refl, sym, ap, subst, _∙_}
 use mathlib.Core.Bool.{Bool, true, false, not, cond, _&&_}
-use mathlib.Core.List.{List, [], _∷_, _++_, append-assoc}
+use mathlib.Core.List.{List, [], _∷_}
 use mathlib.Core.Logic.{_↔_}
 use Prim.Native.Nat.{ℕ}
-use lib.ListN.{length, take}
-use lib.Seq.{length-take-le}
+use lib.ListN.{length}
 use lib.Dec.{ltb}
-use native.Mathlib.Omega.{arith}
-use borrow.Author.Tests.{ltb-true}
-use Rattle.rules.specs.Types.{Store, Tx, Schedule, Answer, Cut, Uncut, After, Refusal, StepFailed, PrepareFailed}
+use Rattle.rules.specs.Types.{Store, Tx, Schedule, Answer, Cut, Uncut, After, StepFailed, PrepareFailed}
 use Rattle.rules.specs.Types.{PreparePanicked, Conflict, BoundDurably, FoundPoisoned, CleanupFailed}
 use Rattle.basic_laws.specs.Cases.{by, and-true, or-false}
 use Rattle.rules.specs.Lists.{all, memb}
@@ -19,17 +16,17 @@ use Rattle.rules.specs.Fit.{fit}
 use Rattle.rules.specs.Faults.{scheduleFit}
 use Rattle.rules.specs.Numbers.{numberOf}
 use Rattle.rules.specs.Puts.{Put, applyAll}
-use Rattle.rules.specs.Changes.{release, insertions}
-use Rattle.rules.specs.Commit.{Clean, fails, Run, runOf}
-use Rattle.rules.specs.Answer.{eventsOf, noEvents, recordOf, uncut, cutOff, answer, commit}
-use Rattle.run_laws.specs.Outcome.{neither, index, both, Passed, guardsTaken}
+use Rattle.rules.specs.Changes.{release}
+use Rattle.rules.specs.Commit.{fails, Run, runOf}
+use Rattle.rules.specs.Answer.{recordOf, uncut, cutOff, answer, commit}
+use Rattle.run_laws.specs.Outcome.{neither, index, both, Passed}
 use Rattle.statements.specs.Table.{Answers, Row, firstRow, Reason}
 use Rattle.statements.specs.Words.{Admitted}
 use Rattle.run_laws.specs.FirstRows.{every-commit}
 use Rattle.sentences.specs.RunSays.{run-says, commit-says}
-use Rattle.run_laws.specs.Gates.{gates, lateGates, clean, run-gates, part, leaving}
+use Rattle.run_laws.specs.Gates.{gates, lateGates, clean, run-gates}
 use Rattle.number_laws.specs.TableLaws.{same, told-by}
-use Rattle.statements.specs.NumbersSeen.{some, rows15, stepRows, doneRow, cutShort, commitRows}
+use Rattle.statements.specs.NumbersSeen.{rows15, stepRows, doneRow, cutShort, commitRows}
 use Rattle.statements.specs.Sized.{Sized}
 use Rattle.posting_laws.specs.Rolled.{ready}
 use Rattle.number_laws.specs.Recording.{recorded}

@@ -1,13 +1,11 @@
 -- "Every commit answer but 1 and 18 leaves no guard held."
 use mathlib.Core.Path.{_≡_, refl}
-use mathlib.Core.Bool.{Bool, true, false, not, _&&_}
-use mathlib.Core.Logic.{_≢_}
-use Prim.Native.Nat.{ℕ}
+use mathlib.Core.Bool.{true, not, _&&_}
 use lib.Dec.{eqb}
 use borrow.Author.Tests.{ne-eqb}
 use Rattle.basic_laws.specs.Cases.{by, and-true}
 use Rattle.rules.specs.Lists.{allZero, memb}
-use Rattle.rules.specs.Types.{Store, Tx, Schedule, Cut}
+use Rattle.rules.specs.Types.{Store}
 use Rattle.rules.specs.Store.{activeTxids}
 use Rattle.rules.specs.Admitted.{resting}
 use Rattle.rules.specs.Fit.{fit}

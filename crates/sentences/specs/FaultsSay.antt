@@ -1,15 +1,15 @@
 -- "Steps and faults": which faults of a schedule strike.
 use mathlib.Core.Path.{_≡_, refl, sym, ap, _∙_}
-use mathlib.Core.Bool.{Bool, true, false, not}
+use mathlib.Core.Bool.{true, not}
 use mathlib.Core.List.{List, [], _∷_}
-use mathlib.Core.Logic.{_↔_, _≢_, _⊎_, inl, inr, ⊎-elim}
+use mathlib.Core.Logic.{_⊎_, inl, inr, ⊎-elim}
 use Prim.Native.Nat.{ℕ}
 use lib.Dec.{eqb}
-use borrow.Author.Tests.{eqb-true, eq-eqb, ne-eqb, not-true}
+use borrow.Author.Tests.{eqb-true, eq-eqb, not-true}
 use Rattle.basic_laws.specs.Cases.{by, clash, and-true}
 use Rattle.records.specs.Zero.{noFault}
 use Rattle.rules.specs.Lists.{all}
-use Rattle.rules.specs.Types.{Store, Tx, Fault, Schedule}
+use Rattle.rules.specs.Types.{Fault}
 use Rattle.rules.specs.Faults.{allowed, stepsApart, faultsOf, scheduleFit, faultAt}
 use Rattle.rules.specs.Commit.{strikes, count}
 use Rattle.statements.specs.Words.{Some}

@@ -1,21 +1,21 @@
 -- "any fault strikes .. never at a step not reached"; "20 flush F, ignored": what a run doesn't ask a schedule about.
-use mathlib.Core.Path.{_≡_, refl, ap, _∙_}
-use mathlib.Core.Bool.{Bool, true, false, _&&_, _||_, cond}
+use mathlib.Core.Path.{_≡_, refl, ap}
+use mathlib.Core.Bool.{Bool, false, _||_}
 use mathlib.Core.List.{List, [], _∷_}
 use mathlib.Core.Logic.{_≢_}
 use Prim.Native.Nat.{ℕ, zero, suc, _+_, _≤_, _<_}
 use native.Mathlib.Nat.{not-suc-le-zero}
 use native.Mathlib.Omega.{arith}
 use lib.ListN.{length, take}
-use Rattle.rules.specs.Types.{Store, Tx, Schedule, Answer, Cut}
+use Rattle.rules.specs.Types.{Store, Tx, Schedule}
 use Rattle.rules.specs.Tests.{indexReadConflict, rowLockConflict, serializationConflict, writeBaseConflict}
 use Rattle.rules.specs.Changes.{changes, destinations}
-use Rattle.rules.specs.Faults.{F, B, P, X, Q, scheduleFit}
-use Rattle.rules.specs.Commit.{strikes, fails, count, abortOrPoison, rollback, Run, indexChangesMade, indexLockKeys, prepareCommitRecord, runPrepare}
+use Rattle.rules.specs.Faults.{F, B, P, X, Q}
+use Rattle.rules.specs.Commit.{strikes, count, abortOrPoison, rollback, indexChangesMade, indexLockKeys, prepareCommitRecord, runPrepare}
 use Rattle.rules.specs.Commit.{acquireIndexLocks, acquirePartitionLocks, ensureUnloggedWriteAllowed, checkNotPoisoned, test, prepareIndexDestinations}
 use Rattle.rules.specs.Commit.{invokeBeforePublish, removeIndexSources, publishWriteSet, recycleNonFinalWrites, finishTransaction, publishIndexStamps}
 use Rattle.rules.specs.Commit.{End, Step, goes, ends, steps, run, committed, runOf}
-use Rattle.rules.specs.Answer.{answer, commit}
+use Rattle.rules.specs.Answer.{commit}
 use Rattle.statements.specs.FaultWords.{AlikeAt, NeverBeyond, FlushIgnored}
 
 -- the first m steps of two lists are the same

@@ -10,7 +10,7 @@ use lib.ListN.{length, take}
 use lib.Seq.{length-take-le}
 use lib.Dec.{eqb, ltb}
 use borrow.Author.Tests.{eqb-true, ltb-true}
-use Rattle.basic_laws.specs.Cases.{by, clash, and-false, or-right}
+use Rattle.basic_laws.specs.Cases.{by, and-false, or-right}
 use Rattle.basic_laws.specs.Rearranged.{or-none, or-comm, and-comm}
 use Rattle.rules.specs.Lists.{memb}
 use Rattle.rules.specs.Types.{Store, Tx, Schedule, Events, Answer, Cut, Uncut, After, Fate, Open, Undone, Refusal, StepFailed, PrepareFailed, PreparePanicked}
@@ -25,7 +25,7 @@ use Rattle.rules.specs.Puts.{Put, putRemove, putPoison, applyAll, abortPuts}
 use Rattle.rules.specs.Changes.{changes, destinations, release, insertions}
 use Rattle.rules.specs.Tests.{indexReadConflict, rowLockConflict, serializationConflict, writeBaseConflict}
 use Rattle.rules.specs.Commit.{End, ending, Step, goes, ends, stopIf, Clean, poison, strikes, fails}
-use Rattle.rules.specs.Commit.{count, abortOrPoison, rollback, Run, run, committed, steps, runOf}
+use Rattle.rules.specs.Commit.{count, abortOrPoison, rollback, run, committed, steps, runOf}
 use Rattle.rules.specs.Commit.{indexChangesMade, indexLockKeys, prepareCommitRecord, runPrepare, acquireIndexLocks, acquirePartitionLocks}
 use Rattle.rules.specs.Commit.{ensureUnloggedWriteAllowed, checkNotPoisoned, prepareIndexDestinations, invokeBeforePublish, removeIndexSources}
 use Rattle.rules.specs.Commit.{publishWriteSet, recycleNonFinalWrites, finishTransaction, publishIndexStamps}

@@ -7,7 +7,7 @@ use Prim.Native.Nat.{ℕ, _+_, _*_, min}
 use lib.ListN.{length}
 use lib.Dec.{eqb}
 use Rattle.rules.specs.Lists.{those}
-use Rattle.rules.specs.Types.{Store, Tx, Schedule, Write}
+use Rattle.rules.specs.Types.{Store, Tx, Schedule}
 use Rattle.rules.specs.Transaction.{finals}
 use Rattle.rules.specs.Puts.{ownSlots}
 use Rattle.rules.specs.Changes.{changes, destinations, sources, changedStripes, guardedStripes, guardedPartitions, recycled}

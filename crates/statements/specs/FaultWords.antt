@@ -1,6 +1,6 @@
 -- "Steps and faults": which faults of a schedule strike, in words.
 use mathlib.Core.Path.{_≡_}
-use mathlib.Core.Bool.{Bool, true, false}
+use mathlib.Core.Bool.{Bool, true}
 use mathlib.Core.List.{List}
 use mathlib.Core.Logic.{_↔_, _≢_}
 use Prim.Native.Nat.{ℕ, suc, _≤_}
