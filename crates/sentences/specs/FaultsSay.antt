@@ -13,7 +13,7 @@ use Rattle.rules.specs.Types.{Fault}
 use Rattle.rules.specs.Faults.{allowed, stepsApart, faultsOf, scheduleFit, faultAt}
 use Rattle.rules.specs.Commit.{strikes, count}
 use Rattle.statements.specs.Words.{Some}
-use Rattle.statements.specs.FaultWords.{FaultsSay}
+use Rattle.statements.specs.FaultWords.{LettersSay, FaultsSay}
 
 -- some member has it, and so something weaker
 some-then : {A : Type 0} {P R : A → Type 0} (l : List A) → ((a : A) → P a → R a) → Some P l → Some R l
@@ -61,3 +61,7 @@ faults-say S x logged plan fit =
       k = λ n m h. found n (λ f. f .k ≡ m) fs apart h;
       none = λ n no. ⊎-elim (λ g. ap (λ (f : Fault). f .k) g) (λ g. absurd (no (some-then fs (λ f h. h .0) g))) (finds n fs);
     }
+
+-- the letters
+pub letters-say : LettersSay
+letters-say = (refl, refl, refl, refl, refl)

@@ -6,10 +6,14 @@ use mathlib.Core.Logic.{_↔_, _≢_}
 use Prim.Native.Nat.{ℕ, suc, _≤_}
 use lib.ListN.{take}
 use Rattle.rules.specs.Types.{Store, Tx, Fault, Schedule, Cut}
-use Rattle.rules.specs.Faults.{scheduleFit}
+use Rattle.rules.specs.Faults.{F, B, P, X, Q, scheduleFit}
 use Rattle.rules.specs.Commit.{strikes, count, runOf}
 use Rattle.rules.specs.Answer.{commit}
 use Rattle.statements.specs.Words.{Some}
+
+-- "F fail, .. B busy, P panic, X fail and poison, Q panic and poison": each letter is the byte by which a script names it
+abbrev pub LettersSay : Type 0
+LettersSay = (F ≡ 70) × (B ≡ 66) × (P ≡ 80) × (X ≡ 88) × (Q ≡ 81)
 
 -- a schedule's faults are its first places, as many as it counts
 abbrev pub planned : Schedule → List Fault
