@@ -31,7 +31,7 @@ all-keys (k ∷ l) h = and-both (ltb k keyEnd) (all (λ k. ltb k keyEnd) l) (lt-
 
 -- demand 1, of an answer that is the definition's
 pub answers-by-table : (S : Store) (x : Tx) (logged : Bool) (plan : Schedule) (cut : Cut) → Sized S → {a : Answer} → a ≡ commit S x logged plan cut
-    → Answers x a (firstRow (commitRows S x logged plan cut) (doneRow S x logged plan))
+    → Answers S x a (firstRow (commitRows S x logged plan cut) (doneRow S x logged plan))
 answers-by-table S x logged plan cut z e =
     rw e (demand-1 S x logged plan cut z .by-first)
 

@@ -24,7 +24,7 @@ use recovery::recover;
 
 // Demand 1: whatever arrives, the answer is that of the first row of "Numbers seen" that applies.
 pub fn commit_by_table(s: Store, x: Tx, logged: bool, plan: Schedule, cut: Cut) -> Answer
-    ensures { λ a. ⌜ (a ≡ commit s x logged plan cut) × Answers x a (firstRow (commitRows s x logged plan cut) (doneRow s x logged plan)) ⌝ }
+    ensures { λ a. ⌜ (a ≡ commit s x logged plan cut) × Answers s x a (firstRow (commitRows s x logged plan cut) (doneRow s x logged plan)) ⌝ }
 {
     commit(s, x, logged, plan, cut)
 }

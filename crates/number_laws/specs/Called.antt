@@ -7,27 +7,27 @@ use lib.ListN.{length, take}
 use lib.Seq.{take-length}
 use lib.Dec.{eqb}
 use borrow.Author.Tests.{eqb-true}
-use Rattle.rules.specs.Types.{Store, Tx, Schedule, Fate, Undone, Refusal, CallbackFailed, CallbackPanicked, CleanupFailed}
+use Rattle.rules.specs.Types.{Store, Tx, Schedule, Fate, Refusal, CallbackFailed, CallbackPanicked, CleanupFailed}
 use Rattle.basic_laws.specs.Cases.{by, clash, and-false}
 use Rattle.rules.specs.Faults.{F, P, X, Q, faultsOf, faultAt}
-use Rattle.rules.specs.Numbers.{fate}
 use Rattle.rules.specs.Puts.{Put, putInsert, putRemove, putPoison, applyAll}
 use Rattle.rules.specs.Changes.{changes, destinations, release, insertions}
 use Rattle.rules.specs.Commit.{Clean, Run, poison, fails, strikes, count, rollback, abortOrPoison}
 use Rattle.run_laws.specs.OnlyKinds.{only, only-both, only-take, only-if}
 use Rattle.run_laws.specs.GuardPuts.{applyAll-append}
-use Rattle.run_laws.specs.Outcome.{guardsTaken, afterInsert, worse, panics, rollingBack, undoing, abortingLate}
+use Rattle.run_laws.specs.Outcome.{guardsTaken, afterInsert, worse, panics, rollingBack, undoing}
 use Rattle.run_laws.specs.Released.{unguarded}
 use Rattle.run_laws.specs.Gates.{Gate, callEnd, leaving, part}
 use Rattle.statements.specs.Table.{Row}
-use Rattle.statements.specs.NumbersSeen.{poisoned, aborted, with, left, some, whole, gone, called}
+use Rattle.statements.specs.NumbersSeen.{poisoned, aborted, with, left, some, whole, called}
 use Rattle.statements.specs.Sized.{Sized}
-use Rattle.basic_laws.specs.Rearranged.{or-none, or-comm}
+use Rattle.basic_laws.specs.Rearranged.{or-none}
 use Rattle.run_laws.specs.Kinds.{insert-kind, remove-kind, insertions-kind, cleaning-kinds, rollback-kinds}
 use Rattle.posting_laws.specs.Undone.{Ready, take-map, undone-but}
 use Rattle.posting_laws.specs.Aside.{postingKinds, between-guards, poison-first}
 use Rattle.posting_laws.specs.Rolled.{regroup, undone-around, back-and-forth}
-use Rattle.number_laws.specs.Ended.{abort-failed, abort-done, rollback-failed, rollback-done, ran, Match, shut, through, pick, pass}
+use Rattle.sentences.specs.RunSays.{abort-failed, abort-done, rollback-failed, rollback-done}
+use Rattle.number_laws.specs.Ended.{ran, Match, shut, through, pick, pass}
 
 module _ (S : Store) (x : Tx) (logged : Bool) (plan : Schedule) (sized : Sized S) (ok : Ready S x) where
   -- put in, and all but some taken out, with the poison after that or before it
@@ -153,57 +153,26 @@ module _ (S : Store) (x : Tx) (logged : Bool) (plan : Schedule) (sized : Sized S
       ∙ ap (λ (v : Bool). inside v (rollback S x logged plan v (whole S x logged plan))) ew
       ∙ cleaned w k j ek ej
 
-  -- its number and fate, and its transaction
-  rolled-failed : undoing S x logged plan .failed ≡ fails S x logged plan 24
-  unfolding rollback
-  rolled-failed = by (fails S x logged plan 24) (λ e. rw e) (λ e. rw e)
-
-  late-failed : abortingLate S x logged plan .failed ≡ fails S x logged plan 23
-  unfolding abortOrPoison
-  late-failed = by (fails S x logged plan 23) (λ e. rw e) (λ e. rw e)
-
-  late-tx : abortingLate S x logged plan .tx ≡ cond (fails S x logged plan 23) x (gone S x logged plan)
-  unfolding abortOrPoison
-  late-tx = by (fails S x logged plan 23) (λ e. rw e) (λ e. rw e)
-
-  says16 : (p w k j : Bool) → panics S x logged plan ≡ p → worst ≡ w → fails S x logged plan 24 ≡ k → fails S x logged plan 23 ≡ j
-      → callEnd S x logged plan .refusal ≡ cond p CallbackPanicked (cond (k || j) CleanupFailed CallbackFailed) (fate (w || (k || j)) (not j))
-  says16 p w k j ep ew ek ej = rw (late-failed, rolled-failed, ek, ej, ep, ew)
-
   -- the run of a commit that fails at 16
   abbrev called16 : Run
   called16 = ran S x logged plan 15 (run16 worst (undoing S x logged plan)) (callEnd S x logged plan)
 
-  -- poisoned, and so undone
-  undone : (w : Bool) (kind : Fate → Refusal) (b : Bool) → kind (fate (w || true) b) ≡ kind Undone
-  undone true kind b = refl
-  undone false kind b = refl
-
   -- the five rows of one kind of failure, where it is of that kind
   taken16 : (n m : ℕ) (kind bad : Fate → Refusal) (w q : Bool) {ws : List Row} {d : Row} (k j : Bool)
       → worst ≡ w → (logged && (w || q)) ≡ true → (logged && w) ≡ w → fails S x logged plan 24 ≡ k → fails S x logged plan 23 ≡ j
-      → callEnd S x logged plan .refusal ≡ cond (k || j) bad kind (fate (w || (k || j)) (not j))
       → Match S x logged plan [] called16 (called S x logged plan n m kind bad w q ws) d
-  taken16 n m kind bad w q true true ew o ow ek ej why =
-      pick S x logged plan (rw (o, ek, ej)) (record { says = why ∙ undone w bad false; store = store16 w true true ew ek ej; tx = late-tx ∙ rw ej })
-  taken16 n m kind bad w q true false ew o ow ek ej why =
-      pass S x logged plan (rw (o, ek, ej))
-      (pick S x logged plan (rw (o, ek)) (record { says = why ∙ undone w bad true; store = store16 w true false ew ek ej; tx = late-tx ∙ rw ej }))
-  taken16 n m kind bad w q false true ew o ow ek ej why =
-      pass S x logged plan (rw (o, ek))
-      (pass S x logged plan (rw (o, ek))
-      (pick S x logged plan (rw (o, ej)) (record { says = why ∙ undone w bad false; store = store16 w false true ew ek ej; tx = late-tx ∙ rw ej })))
-  taken16 n m kind bad true q false false ew o ow ek ej why =
-      pass S x logged plan (rw (o, ek))
-      (pass S x logged plan (rw (o, ek))
-      (pass S x logged plan (rw (o, ej))
-      (pick S x logged plan ow (record { says = why; store = store16 true false false ew ek ej; tx = late-tx ∙ rw ej }))))
-  taken16 n m kind bad false q false false ew o ow ek ej why =
-      pass S x logged plan (rw (o, ek))
-      (pass S x logged plan (rw (o, ek))
-      (pass S x logged plan (rw (o, ej))
-      (pass S x logged plan ow
-      (pick S x logged plan o (record { says = why; store = store16 false false false ew ek ej; tx = late-tx ∙ rw ej })))))
+  taken16 n m kind bad w q true true ew o ow ek ej = pick S x logged plan (rw (o, ek, ej)) (record { store = store16 w true true ew ek ej })
+  taken16 n m kind bad w q true false ew o ow ek ej =
+      pass S x logged plan (rw (o, ek, ej)) (pick S x logged plan (rw (o, ek)) (record { store = store16 w true false ew ek ej }))
+  taken16 n m kind bad w q false true ew o ow ek ej =
+      pass S x logged plan (rw (o, ek)) (pass S x logged plan (rw (o, ek))
+      (pick S x logged plan (rw (o, ej)) (record { store = store16 w false true ew ek ej })))
+  taken16 n m kind bad true q false false ew o ow ek ej =
+      pass S x logged plan (rw (o, ek)) (pass S x logged plan (rw (o, ek)) (pass S x logged plan (rw (o, ej))
+      (pick S x logged plan ow (record { store = store16 true false false ew ek ej }))))
+  taken16 n m kind bad false q false false ew o ow ek ej =
+      pass S x logged plan (rw (o, ek)) (pass S x logged plan (rw (o, ek)) (pass S x logged plan (rw (o, ej)) (pass S x logged plan ow
+      (pick S x logged plan o (record { store = store16 false false false ew ek ej })))))
 
   -- .. and where it is not
   passed16 : (n m : ℕ) (kind bad : Fate → Refusal) (w q : Bool) {gs : List Gate} {c : Run} {ws : List Row} {d : Row}
@@ -228,10 +197,6 @@ module _ (S : Store) (x : Tx) (logged : Bool) (plan : Schedule) (sized : Sized S
   unfolding strikes
   apart c e n h = ap (λ (l : ℕ). eqb l e) (eqb-true (faultAt 16 (faultsOf plan) .letter) c h) ∙ n
 
-  either : (b : Bool) (kind : Fate → Refusal) (f : Fate) → kind f ≡ cond b kind kind f
-  either true kind f = refl
-  either false kind f = refl
-
   abbrev gate16 : Bool
   gate16 = logged && (at16 F || (worst || panics S x logged plan))
 
@@ -249,22 +214,18 @@ module _ (S : Store) (x : Tx) (logged : Bool) (plan : Schedule) (sized : Sized S
         let k = fails S x logged plan 24 in
         let j = fails S x logged plan 23 in
         let ew : worst ≡ at16 Q = rw nx in
-        let ep : panics S x logged plan ≡ true = or-comm (at16 P) (at16 Q) ∙ h in
         shut S x logged plan g
-        (taken16 12 12 CallbackPanicked CallbackPanicked (at16 Q) (at16 P) k j ew (rw h (and-left true l)) (and-left (at16 Q) l) refl refl
-        (says16 true (at16 Q) k j ep ew refl refl ∙ either (k || j) CallbackPanicked _))
+        (taken16 12 12 CallbackPanicked CallbackPanicked (at16 Q) (at16 P) k j ew (rw h (and-left true l)) (and-left (at16 Q) l) refl refl)
 
     failed : logged ≡ true → gate16 ≡ true → at16 Q ≡ false → at16 P ≡ false → (at16 X || at16 F) ≡ true → Beside
     failed l g nq np h =
         let k = fails S x logged plan 24 in
         let j = fails S x logged plan 23 in
         let ew : worst ≡ at16 X = rw nq (or-none (at16 X)) in
-        let ep : panics S x logged plan ≡ false = rw (np, nq) in
         shut S x logged plan g
         (passed16 12 12 CallbackPanicked CallbackPanicked (at16 Q) (at16 P) (rw (nq, np) (and-false logged)) (rw nq (and-false logged))
         (rw np (and-false logged))
-        (taken16 11 19 CallbackFailed CleanupFailed (at16 X) (at16 F) k j ew (rw h (and-left true l)) (and-left (at16 X) l) refl refl
-        (says16 false (at16 X) k j ep ew refl refl)))
+        (taken16 11 19 CallbackFailed CleanupFailed (at16 X) (at16 F) k j ew (rw h (and-left true l)) (and-left (at16 X) l) refl refl))
 
     open16 : gate16 ≡ false → (logged && (at16 Q || at16 P)) ≡ false → (logged && at16 Q) ≡ false → (logged && at16 P) ≡ false
         → (logged && (at16 X || at16 F)) ≡ false → (logged && at16 X) ≡ false → (logged && at16 F) ≡ false → Match S x logged plan gs c ws d → Beside

@@ -1,20 +1,20 @@
--- Each ending of a run beside its rows of "Numbers seen": refusal, store and transaction are the row's.
+-- Each ending of a run beside its rows of "Numbers seen": its stores add up to the row's store.
 use mathlib.Core.Path.{_≡_, refl, sym, ap, subst, _∙_}
 use mathlib.Core.Bool.{Bool, true, false, cond, _&&_}
-use mathlib.Core.List.{List, [], _∷_, _++_, map, reverse, append-assoc}
+use mathlib.Core.List.{List, [], _∷_, _++_, append-assoc}
 use Prim.Native.Nat.{ℕ}
-use lib.ListN.{take}
-use Rattle.rules.specs.Types.{Store, Tx, Schedule, Fate, Open, Closed, Undone, Refusal}
+use Rattle.rules.specs.Types.{Store, Tx, Schedule, Events, Fate, Refusal}
 use Rattle.rules.specs.Admitted.{resting}
-use Rattle.rules.specs.Puts.{Put, putRemove, putPoison, apply, applyAll, abortPuts}
-use Rattle.rules.specs.Commit.{End, Clean, Run, poison, fails, count, rollback, abortOrPoison}
+use Rattle.rules.specs.Puts.{Put, putPoison, apply, applyAll}
+use Rattle.rules.specs.Commit.{End, Clean, Run, poison, fails}
 use Rattle.run_laws.specs.OnlyKinds.{only}
 use Rattle.run_laws.specs.GuardPuts.{applyAll-append}
 use Rattle.run_laws.specs.Outcome.{Taken}
 use Rattle.run_laws.specs.FirstRows.{given-back}
 use Rattle.run_laws.specs.Gates.{Gate, first, stayEnd, abortEnd, dying}
+use Rattle.sentences.specs.RunSays.{abort-failed, abort-done}
 use Rattle.statements.specs.Table.{Row, row, firstRow}
-use Rattle.statements.specs.NumbersSeen.{poisoned, aborted, gone}
+use Rattle.statements.specs.NumbersSeen.{poisoned, aborted, stays, unaborted, aborts}
 
 -- "Poisoning a poisoned store makes no store."
 poison-once : (T : Store) → applyAll (poison (T .poisoned)) T ≡ apply putPoison T
@@ -25,31 +25,9 @@ poison-once T = go (T .poisoned) refl
     go false e = refl
 
 module _ (S : Store) (x : Tx) (logged : Bool) (plan : Schedule) where
-  -- abort and rollback, done or failed
-  pub abort-failed : (b : Bool) → fails S x logged plan 23 ≡ true → abortOrPoison S x logged plan b ≡ record { puts = poison b; tx = x; failed = true }
-  unfolding abortOrPoison
-  abort-failed b e = rw e
-
-  pub abort-done : (b : Bool) → fails S x logged plan 23 ≡ false
-      → abortOrPoison S x logged plan b ≡ record { puts = abortPuts S (x .txid .0); tx = gone S x logged plan; failed = false }
-  unfolding abortOrPoison
-  abort-done b e = rw e
-
-  pub rollback-failed : (b : Bool) (made : List ℕ) → fails S x logged plan 24 ≡ true
-      → rollback S x logged plan b made ≡ record { puts = take (count S x logged plan 24) (map putRemove (reverse made)) ++ poison b; tx = x; failed = true }
-  unfolding rollback
-  rollback-failed b made e = rw e
-
-  pub rollback-done : (b : Bool) (made : List ℕ) → fails S x logged plan 24 ≡ false
-      → rollback S x logged plan b made ≡ record { puts = map putRemove (reverse made); tx = x; failed = false }
-  unfolding rollback
-  rollback-done b made e = rw e
-
-  -- a run of the steps beside a row
+  -- a run of the steps beside a row: what its stores add up to
   pub record Agree (r : Run) (w : Row) : Type 0 where
-    pub says : r .end .refusal ≡ w .says
     pub store : applyAll (r .puts) S ≡ w .store
-    pub tx : r .end .tx ≡ w .tx
 
   abbrev pub ran : ℕ → List Put → End → Run
   ran n ps d = record { passed = n; puts = ps; end = d }
@@ -62,14 +40,15 @@ module _ (S : Store) (x : Tx) (logged : Bool) (plan : Schedule) where
   gate b r = record { when = b; then = r }
 
   -- a gate with one row; with two, the first for a failure in cleaning up
-  pub one : (b : Bool) {n : ℕ} {r : Run} {why : Refusal} {T : Store} {y : Tx} {gs : List Gate} {c : Run} {ws : List Row} {d : Row}
-      → Agree r (row n b why T y) → (b ≡ false → Match gs c ws d) → Match (gate b r ∷ gs) c (row n b why T y ∷ ws) d
+  pub one : (b : Bool) {n : ℕ} {r : Run} {why : Refusal} {ps : List Put} {T : Store} {y : Tx} {e : Events} {gs : List Gate} {c : Run} {ws : List Row}
+      {d : Row} → Agree r (row n b why ps T y e) → (b ≡ false → Match gs c ws d) → Match (gate b r ∷ gs) c (row n b why ps T y e ∷ ws) d
   one true a m = record { are = a }
   one false a m = record { are = m refl .are }
 
-  pub two : (b f : Bool) {n k : ℕ} {r : Run} {why only : Refusal} {T U : Store} {y z : Tx} {gs : List Gate} {c : Run} {ws : List Row} {d : Row}
-      → (f ≡ true → Agree r (row n (b && f) why T y)) → (f ≡ false → Agree r (row k b only U z)) → (b ≡ false → Match gs c ws d)
-      → Match (gate b r ∷ gs) c (row n (b && f) why T y ∷ row k b only U z ∷ ws) d
+  pub two : (b f : Bool) {n k : ℕ} {r : Run} {why only : Refusal} {ps qs : List Put} {T U : Store} {y z : Tx} {v w : Events} {gs : List Gate} {c : Run}
+      {ws : List Row} {d : Row}
+      → (f ≡ true → Agree r (row n (b && f) why ps T y v)) → (f ≡ false → Agree r (row k b only qs U z w)) → (b ≡ false → Match gs c ws d)
+      → Match (gate b r ∷ gs) c (row n (b && f) why ps T y v ∷ row k b only qs U z w ∷ ws) d
   two true true a e m = record { are = a refl }
   two true false a e m = record { are = e refl }
   two false f a e m = record { are = m refl .are }
@@ -89,25 +68,25 @@ module _ (S : Store) (x : Tx) (logged : Bool) (plan : Schedule) where
 
   module _ (rest : resting S ≡ true) where
     -- 4 and 8: what was taken is given back
-    pub stay : (b : Bool) (kind : Fate → Refusal) {n m : ℕ} {taken back : List Put} {gs : List Gate} {c : Run} {ws : List Row} {d : Row}
+    pub stay : (b : Bool) (kind : Fate → Refusal) (m : ℕ) {n : ℕ} {taken back : List Put} {gs : List Gate} {c : Run} {ws : List Row} {d : Row}
         → Taken S x logged plan taken back → (b ≡ false → Match gs c ws d)
-        → Match (gate b (ran m (taken ++ back) (stayEnd S x logged plan kind)) ∷ gs) c (row n b (kind Open) S x ∷ ws) d
-    stay b kind t m = one b (record { says = refl; store = given-back S x logged plan rest t; tx = refl }) m
+        → Match (gate b (ran m (taken ++ back) (stayEnd S x logged plan kind)) ∷ gs) c (stays S x logged plan m taken back n kind b ∷ ws) d
+    stay b kind m t next = one b (record { store = given-back S x logged plan rest t }) next
 
     -- 5, 6, 7 and 9: .. and then aborted, or not
     then-only : {taken back : List Put} → Taken S x logged plan taken back → (ps : List Put) → applyAll (taken ++ (back ++ ps)) S ≡ applyAll ps S
     then-only {taken} {back} t ps = rw (sym (append-assoc taken back ps), applyAll-append (taken ++ back) ps S, given-back S x logged plan rest t)
 
-    pub die : (b : Bool) (kind other : Fate → Refusal) (found preparing : Bool) {n k m : ℕ} {taken back : List Put} {gs : List Gate} {c : Run}
+    pub die : (b : Bool) (kind other : Fate → Refusal) (found preparing : Bool) (m : ℕ) {n k : ℕ} {taken back : List Put} {gs : List Gate} {c : Run}
         {ws : List Row} {d : Row}
         → Taken S x logged plan taken back → (b ≡ false → Match gs c ws d)
         → Match (gate b (ran m (taken ++ (back ++ dying S x logged plan)) (abortEnd S x logged plan kind other found preparing)) ∷ gs) c
-        (row n (b && fails S x logged plan 23) (other Undone) (poisoned S x logged plan S) x
-        ∷ row k b (kind Closed) (aborted S x logged plan S) (gone S x logged plan) ∷ ws) d
-    die b kind other found preparing t m =
+        (unaborted S x logged plan m taken back preparing n other b ∷ aborts S x logged plan m taken back found k kind b ∷ ws) d
+    die b kind other found preparing m {taken = taken} {back = back} t next =
         two b (fails S x logged plan 23)
-        (λ e. let a = abort-failed (S .poisoned) e in
-        record { says = rw a; store = then-only t (dying S x logged plan) ∙ ap (λ (c : Clean). applyAll (c .puts) S) a ∙ poison-once S; tx = rw a })
-        (λ e. let a = abort-done (S .poisoned) e in
-        record { says = rw a; store = then-only t (dying S x logged plan) ∙ ap (λ (c : Clean). applyAll (c .puts) S) a; tx = rw a })
-        m
+        (λ e. record {
+          store =
+              then-only t (dying S x logged plan) ∙ ap (λ (c : Clean). applyAll (c .puts) S) (abort-failed S x logged plan (S .poisoned) e) ∙ poison-once S;
+        })
+        (λ e. record { store = then-only t (dying S x logged plan) ∙ ap (λ (c : Clean). applyAll (c .puts) S) (abort-done S x logged plan (S .poisoned) e) })
+        next

@@ -2,6 +2,7 @@
 pub mod TableLaws
 pub mod Column
 -- Every commit answers by the table of "Numbers seen".
+pub mod Recording
 pub mod Ended
 pub mod Called
 pub mod Stored
@@ -9,3 +10,5 @@ pub mod Seen
 -- What follows.
 pub mod Reasons
 pub mod Fates
+pub mod Counts
+pub mod Unheld

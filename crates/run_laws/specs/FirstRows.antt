@@ -205,7 +205,7 @@ publish-one : (t : ℕ) (w : Write) (ws : List Write) → length (publishOne t w
 unfolding publishOne
 publish-one t w ws = by (eqb (w .base .0) 0) (λ e. rw e (omega arith)) (λ e. rw e (omega arith))
 
-publish-length : (t : ℕ) (ws : List Write) → length (flat (publishOne t) ws) ≡ length ws + length (based ws)
+pub publish-length : (t : ℕ) (ws : List Write) → length (flat (publishOne t) ws) ≡ length ws + length (based ws)
 publish-length t [] = refl
 publish-length t (w ∷ ws) =
     length-append (publishOne t w) (flat (publishOne t) ws) ∙ omega (arith, publish-length t ws, publish-one t w ws)

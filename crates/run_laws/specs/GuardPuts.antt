@@ -60,7 +60,7 @@ module _ {A : Type 0} (z : A) where
   set-all-long [] g v = refl
   set-all-long (i ∷ is) g v = set-all-long is (set g i v) v ∙ length-set g i v
 
-all-zero : (g : List ℕ) (p : ℕ) → allZero g ≡ true → getD g p 0 ≡ 0
+pub all-zero : (g : List ℕ) (p : ℕ) → allZero g ≡ true → getD g p 0 ≡ 0
 all-zero [] p h = refl
 all-zero (x ∷ g) zero h = eqb-true x 0 (and-true (eqb x 0) (allZero g) h .0)
 all-zero (x ∷ g) (suc p) h = all-zero g p (and-true (eqb x 0) (allZero g) h .1)

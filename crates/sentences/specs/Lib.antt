@@ -8,6 +8,10 @@ pub mod ReadsSay
 pub mod Forged
 -- "Steps and faults"
 pub mod StepsSay
+pub mod FaultsSay
+pub mod FaultsUnheeded
+-- "Numbers seen": the table, straight from the steps
+pub mod RunSays
 -- "Replay": its bytes; its lines; and a table of both, computed
 pub mod ScriptSays
 pub mod ReplaySays

@@ -27,7 +27,7 @@ use Rattle.statements.specs.OtherNumbers.{firstLines, beginLines, readLi
 -- commit: the answer is that of the first row of the table that applies, of the row of 0 if none does; so a number is answered exactly where one
 -- of its rows applies and none before it does
 pub record AnswersByTable (S : Store) (x : Tx) (logged : Bool) (plan : Schedule) (cut : Cut) : Type 0 where
-  pub by-first : Answers x (commit S x logged plan cut) (firstRow (commitRows S x logged plan cut) (doneRow S x logged plan))
+  pub by-first : Answers S x (commit S x logged plan cut) (firstRow (commitRows S x logged plan cut) (doneRow S x logged plan))
   pub exactly : (n : ℕ) → (numberOf (commit S x logged plan cut .refusal) ≡ n)
       ↔ Reason n [] (commitRows S x logged plan cut) (doneRow S x logged plan)
 

@@ -12,6 +12,8 @@ pub mod ShowWords
 -- "Numbers seen": a table and its reading; commit's table; the other calls' tables.
 pub mod Table
 pub mod NumbersSeen
+pub mod CountWords
+pub mod FaultWords
 pub mod OtherNumbers
 -- The three demands.
 pub mod Demands

@@ -3,26 +3,36 @@ use mathlib.Core.Path.{_≡_}
 use mathlib.Core.Bool.{Bool, true, false, cond}
 use mathlib.Core.List.{List, [], _∷_, _++_}
 use mathlib.Core.Logic.{_↔_, _⊎_}
-use Prim.Native.Nat.{ℕ}
-use Rattle.rules.specs.Types.{Store, Tx, Refusal, Answer}
+use Prim.Native.Nat.{ℕ, _<_}
+use lib.ListN.{length, getD}
+use Rattle.rules.specs.Types.{Store, Tx, Write, Record, Refusal, Events, Answer}
+use Rattle.rules.specs.Transaction.{finals}
 use Rattle.rules.specs.Numbers.{numberOf}
-use Rattle.rules.specs.Answer.{recordOf}
+use Rattle.rules.specs.Puts.{Put, applyAll}
 
 -- none of these tests holds
 abbrev pub None : List Bool → Type 0
 None [] = Unit {0}
 None (b ∷ bs) = (b ≡ false) × None bs
 
--- the columns "No.", "When" and "Afterwards"; the refusal has its fate inside
+-- first these stores, then those
+infixr 4 _⨾_
+abbrev pub _⨾_ : List Put → List Put → List Put
+ps ⨾ qs = ps ++ qs
+
+-- the columns "No.", "When" and "Afterwards", the refusal with its fate inside; between them all the stores that are made, in their order, the
+-- guards taken and let go among them; at the end the events
 pub record Row : Type 0 where
   pub number : ℕ
   pub when : Bool
   pub says : Refusal
+  pub makes : List Put
   pub store : Store
   pub tx : Tx
+  pub events : Events
 
-abbrev pub row : ℕ → Bool → Refusal → Store → Tx → Row
-row n b why T y = record { number = n; when = b; says = why; store = T; tx = y }
+abbrev pub row : ℕ → Bool → Refusal → List Put → Store → Tx → Events → Row
+row n b why ps T y e = record { number = n; when = b; says = why; makes = ps; store = T; tx = y; events = e }
 
 -- the first row that applies, d if none does
 abbrev pub firstRow : List Row → Row → Row
@@ -34,12 +44,38 @@ abbrev pub Reason : ℕ → List Bool → List Row → Row → Type 0
 Reason n before [] d = (n ≡ d .number) × None before
 Reason n before (r ∷ rs) d = ((n ≡ r .number) × None before × (r .when ≡ true)) ⊎ Reason n (before ++ r .when ∷ []) rs d
 
--- an answer is what a row says: its refusal, fate inside; "The record is zero unless 0"; store and transaction
-pub record Answers (x : Tx) (a : Answer) (w : Row) : Type 0 where
+-- "The record is zero unless 0": then it names the transaction and its final writes, in their order, with zero in the places after them
+abbrev pub zeroWrite : Write
+zeroWrite = record { row = record { 0 = 0 }; base = record { 0 = 0 }; new = record { 0 = 0 } }
+
+pub record Names (t : ℕ) (ws : List Write) (r : Record) : Type 0 where
+  pub txid : r .txid .0 ≡ t
+  pub count : r .count ≡ length ws
+  pub places : length (r .writes) ≡ 16
+  pub writes : (i : ℕ) → i < 16 → getD (r .writes) i zeroWrite ≡ getD ws i zeroWrite
+
+pub record Recorded (n : ℕ) (x : Tx) (r : Record) : Type 0 where
+  pub committed : n ≡ 0 → Names (x .txid .0) (finals x) r
+  pub refused : (n ≡ 0 → ⊥) → Names 0 [] r
+
+-- an answer is what a row says: its refusal, fate inside; "The record is zero unless 0"; store and transaction; the store is the one at entry, S, with
+-- the row's stores made one after the other, so no guard, stamp or posting is otherwise than they leave it; their number; the events
+pub record Answers (S : Store) (x : Tx) (a : Answer) (w : Row) : Type 0 where
   pub refusal : a .refusal ≡ w .says
-  pub «record» : a .«record» ≡ recordOf (w .says) x
+  pub «record» : Recorded (numberOf (w .says)) x (a .«record»)
   pub store : a .store ≡ w .store
+  pub made : a .store ≡ applyAll (w .makes) S
+  pub stores : a .stores ≡ length (w .makes)
   pub tx : a .tx ≡ w .tx
+  pub events : a .events ≡ w .events
+
+-- the same without what the stores add up to, and without the record: this much is read off the steps one by one
+pub record Says (S : Store) (a : Answer) (w : Row) : Type 0 where
+  pub refusal : a .refusal ≡ w .says
+  pub made : a .store ≡ applyAll (w .makes) S
+  pub stores : a .stores ≡ length (w .makes)
+  pub tx : a .tx ≡ w .tx
+  pub events : a .events ≡ w .events
 
 -- a line of a shorter table, whose refusals change nothing: the number, the refusal with its fate inside, and when it applies
 pub record Line : Type 0 where
