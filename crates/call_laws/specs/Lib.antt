@@ -19,6 +19,7 @@ pub mod CandidateRows
 pub mod OneByOne
 pub mod StampLaws
 pub mod LookupLaws
+pub mod JustBegun
 pub mod RowLockLaws
 pub mod AbortLaws
 pub mod CommitAborts
