@@ -150,8 +150,11 @@ module _ (T : Store) (z : Sized T) (rest : resting T ≡ true) (sound : T .poiso
   value-read r lt =
       let p = readPtr (entered T) (begun T) r in
       let l = recordRead (entered T) (begun T) r (readsOf (begun T)) in
-      let short : length l ≤ readLimit = rw none-read (omega (arith, at-most-one
-      (eqb p 0 || (not (eqb (lastOwn r (writesOf (begun T)) .new .0) 0) || false)) (readOf r p (getD (T .xmin) p 0)))) in
+      let short : length l ≤ readLimit = rw none-read (omega (
+        arith,
+        at-most-one
+            (eqb p 0 || (not (eqb (lastOwn r (writesOf (begun T)) .new .0) 0) || false)) (readOf r p (getD (T .xmin) p 0)),
+      )) in
       let h = applies-none (read (entered T) (begun T) r .refusal) (readLines (entered T) (begun T) r) (read-told (entered T) (begun T) r)
       (rw (keeps .rests), (rw (keeps .fits), (rw (keeps .active), (sound, (lt-leb rows r lt, (le-ltb readLimit (length l) short, tt)))))) in
       (h, ap (λ (a : Seen). a .value) (read-accepted (entered T) (begun T) r h) ∙ rw (reads-head r lt))
@@ -228,7 +231,8 @@ module _ (T : Store) (z : Sized T) (rest : resting T ≡ true) (sound : T .poiso
     ))
 
     -- the tests that come before 24 are passed
-    early-tests : None (not (resting (entered T)) ∷ not (fit (entered T) (begun T)) ∷ not (memb (begun T .txid .0) (activeTxids (entered T .active))) ∷ T .poisoned ∷ [])
+    early-tests : None (not (resting (entered T)) ∷ not (fit (entered T) (begun T))
+        ∷ not (memb (begun T .txid .0) (activeTxids (entered T .active))) ∷ T .poisoned ∷ [])
     early-tests = (rw (keeps .rests), (rw (keeps .fits), (rw (keeps .active), (sound, tt))))
 
     -- 24 exactly where the rows are too many

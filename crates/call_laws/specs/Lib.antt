@@ -27,3 +27,4 @@ pub mod CommitAborts
 pub mod Others
 pub mod CommitOthers
 pub mod Always
+pub mod StampsKept
