@@ -7,13 +7,12 @@ use Prim.Native.Nat.{ℕ, zero, suc, _+_, _%_, _≤_, _<_}
 use native.Mathlib.Omega.{arith}
 use lib.ListN.{length, getD, length-append, length-map, List·getD-map}
 use lib.Dec.{eqb, ltb, leb}
-use borrow.Author.Tests.{eqb-true, eqb-false, eq-eqb, ne-eqb, ltb-true, ltb-false, lt-ltb, le-ltb, lt-leb, not-true}
+use borrow.Author.Tests.{eqb-false, ne-eqb, ltb-true, ltb-false, lt-ltb, le-ltb, lt-leb, not-true}
 use Rattle.records.specs.Limits.{rows, slots, stripes, activeLimit, readLimit, clockEnd}
-use Rattle.records.specs.Zero.{zeroTx, onlyTxid}
 use Rattle.rules.specs.Lists.{any, memb, pad, firstOf, rising}
-use Rattle.rules.specs.Types.{Store, Tx, ReadRecord, RowId, Value, Absent, Key, Seen, Found}
-use Rattle.rules.specs.Store.{sameValue, carries, stripeOf, activeTxids}
-use Rattle.rules.specs.Transaction.{writesOf, readsOf, snapshotOf, sees, lastOwn}
+use Rattle.rules.specs.Types.{Store, ReadRecord, RowId, Value, Absent, Key, Seen}
+use Rattle.rules.specs.Store.{sameValue, carries, activeTxids}
+use Rattle.rules.specs.Transaction.{writesOf, readsOf, sees, lastOwn}
 use Rattle.rules.specs.Chains.{chainFrom}
 use Rattle.rules.specs.Admitted.{resting}
 use Rattle.rules.specs.Fit.{fit}
@@ -21,15 +20,15 @@ use Rattle.statements.specs.Table.{None}
 use Rattle.rules.specs.Numbers.{numberOf}
 use Rattle.rules.specs.Puts.{putEnter, putClock, applyAll}
 use Rattle.rules.specs.Calls.{begun, begin, visibleVersion, readPtr, recordRead, read, candidates, recordReads, matching, asRow, lookup}
-use Rattle.basic_laws.specs.Cases.{by, clash, iff, and-true, and-false, or-true, or-false, or-neither, mem-here, mem-there}
+use Rattle.basic_laws.specs.Cases.{by, clash, iff, and-true, and-false, or-false, or-neither, mem-here, mem-there}
 use Rattle.basic_laws.specs.Members.{at-mem, mem-all}
-use Rattle.basic_laws.specs.Rising.{unique, eqb-sym, rising-from, rising-unique, rising-ext, rising-short}
+use Rattle.basic_laws.specs.Rising.{unique, rising-from, rising-unique, rising-ext, rising-short}
 use Rattle.basic_laws.specs.Rearranged.{or-none}
 use Rattle.basic_laws.specs.LaidOut.{before-take, pad-length}
 use Rattle.basic_laws.specs.Chain.{chain-head}
 use Rattle.statements.specs.Sized.{Sized}
 use Rattle.statements.specs.Words.{rowValue}
-use Rattle.statements.specs.ShowWords.{RowsWith, Unseen, Stamped, Answered, Shown}
+use Rattle.statements.specs.ShowWords.{Unseen, Answered, Shown}
 use Rattle.statements.specs.OtherNumbers.{beginLines, readLines, lookupLines}
 use Rattle.posting_laws.specs.RestingPostings.{exact}
 use Rattle.posting_laws.specs.HeadsTold.{value-same, carries-key}
@@ -39,7 +38,6 @@ use Rattle.recovery_laws.specs.Unfinished.{active-in, active-unfinished}
 use Rattle.call_laws.specs.FirstLine.{applies-none}
 use Rattle.call_laws.specs.Refusals.{begin-told, begin-accepted, read-told, read-accepted, lookup-told, lookup-accepted}
 use Rattle.call_laws.specs.Keeps.{Keeps}
-use Rattle.call_laws.specs.ReadLaws.{readOf}
 use Rattle.posting_laws.specs.Written.{rowsOf}
 use Rattle.call_laws.specs.BeginLaws.{begin-keeps}
 use Rattle.call_laws.specs.CandidateRows.{candidates-rise, candidate-below, matching-rise, matching-is}
@@ -80,6 +78,10 @@ at-most-one false e = omega arith
 -- the store that begin leaves
 abbrev entered : Store → Store
 entered T = applyAll (putEnter (T .clock) ∷ putClock (suc (T .clock)) ∷ []) T
+
+-- what a read of slot p records
+abbrev entry : Store → ℕ → ℕ → ReadRecord
+entry T r p = record { row = record { 0 = r }; ptr = record { 0 = p }; xmin = record { 0 = getD (T .xmin) p 0 } }
 
 module _ (T : Store) (z : Sized T) (rest : resting T ≡ true) (sound : T .poisoned ≡ false) (few : length (activeTxids (T .active)) < activeLimit)
     (early : T .clock < clockEnd) where
@@ -153,7 +155,7 @@ module _ (T : Store) (z : Sized T) (rest : resting T ≡ true) (sound : T .poiso
       let short : length l ≤ readLimit = rw none-read (omega (
         arith,
         at-most-one
-            (eqb p 0 || (not (eqb (lastOwn r (writesOf (begun T)) .new .0) 0) || false)) (readOf r p (getD (T .xmin) p 0)),
+            (eqb p 0 || (not (eqb (lastOwn r (writesOf (begun T)) .new .0) 0) || false)) (entry T r p),
       )) in
       let h = applies-none (read (entered T) (begun T) r .refusal) (readLines (entered T) (begun T) r) (read-told (entered T) (begun T) r)
       (rw (keeps .rests), (rw (keeps .fits), (rw (keeps .active), (sound, (lt-leb rows r lt, (le-ltb readLimit (length l) short, tt)))))) in
@@ -171,7 +173,7 @@ module _ (T : Store) (z : Sized T) (rest : resting T ≡ true) (sound : T .poiso
 
   -- a row with a head that is not recorded yet is recorded
   records-one : (r : ℕ) (l : List ReadRecord) → r < rows → (getD (T .heads) r 0 ≡ 0 → ⊥) → any (λ e. eqb (e .ptr .0) (getD (T .heads) r 0)) l ≡ false
-      → recordRead (entered T) (begun T) r l ≡ l ++ readOf r (getD (T .heads) r 0) (getD (T .xmin) (getD (T .heads) r 0) 0) ∷ []
+      → recordRead (entered T) (begun T) r l ≡ l ++ entry T r (getD (T .heads) r 0) ∷ []
   unfolding recordRead
   records-one r l lt n k = rw (reads-head r lt, no-own r, ne-eqb (getD (T .heads) r 0) 0 n, k)
 
@@ -184,7 +186,7 @@ module _ (T : Store) (z : Sized T) (rest : resting T ≡ true) (sound : T .poiso
   records-each (r ∷ rs) l u b n k =
       let a = and-true (not (memb r rs)) (unique rs) u in
       let h = getD (T .heads) r 0 in
-      let e = readOf r h (getD (T .xmin) h 0) in
+      let e = entry T r h in
       let one = records-one r l (b r (mem-here r rs)) (n r (mem-here r rs)) (k r (mem-here r rs)) in
       let more = records-each rs (l ++ e ∷ []) (a .1) (λ q m. b q (mem-there q r rs m)) (λ q m. n q (mem-there q r rs m))
       (λ q m. any-more (λ d. eqb (d .ptr .0) (getD (T .heads) q 0)) l e (k q (mem-there q r rs m)) (ne-eqb h (getD (T .heads) q 0)

@@ -1,6 +1,6 @@
--- Every store that the calls reach from the empty one can be recovered, and then shows each row's last finished value, index_conflict down.
-use mathlib.Core.Path.{_≡_, refl, ap, _∙_}
-use mathlib.Core.Bool.{Bool, true, false}
+-- Every store that the calls reach from the empty one can be recovered, and then shows the value of each row's first finished version.
+use mathlib.Core.Path.{_≡_, refl}
+use mathlib.Core.Bool.{Bool, true}
 use mathlib.Core.List.{List, [], _∷_}
 use Prim.Native.Nat.{ℕ, zero, suc, _<_}
 use native.Mathlib.Omega.{arith}
@@ -12,9 +12,8 @@ use Rattle.records.specs.Limits.{keyEnd}
 use Rattle.records.specs.Zero.{emptyStore}
 use Rattle.rules.specs.Lists.{all, keep}
 use Rattle.rules.specs.Types.{Store, Tx, Schedule, Cut, Uncut, After, Value, Absent, Key}
-use Rattle.rules.specs.Admitted.{repairable, resting}
 use Rattle.rules.specs.Numbers.{numberOf}
-use Rattle.rules.specs.Puts.{Put, putLock, takeSlot, abortPuts, applyAll}
+use Rattle.rules.specs.Puts.{Put, takeSlot, abortPuts, applyAll}
 use Rattle.rules.specs.Calls.{begin, lowestFree, baseOf, write, rowLock, abort}
 use Rattle.rules.specs.Recovery.{recovered, recover}
 use Rattle.rules.specs.Commit.{runOf}
@@ -170,4 +169,4 @@ reached-sound _ (Reached.recovered S h) = recover-sound S (reached-sound S h)
 pub reached-shows : ReachedShows
 reached-shows S h =
     let G = reached-sound S h in
-    (G, λ early. recovered-shows S (G .sized) (G .keyed) (G .mendable) early .0)
+    (G, λ early. let a = recovered-shows S (G .sized) (G .keyed) (G .mendable) early in (a .0, a .1 (G .stamped)))

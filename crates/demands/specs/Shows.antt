@@ -31,11 +31,15 @@ use Rattle.recovery_laws.specs.Recovering.{recovery}
 use Rattle.recovery_laws.specs.Cuts.{recover-done}
 use Rattle.call_laws.specs.JustBegun.{store-shows}
 use Rattle.call_laws.specs.StampsKept.{recover-stamped, commit-stamped}
-use Rattle.statements.specs.Sized.{Sized, Keyed}
+use Rattle.statements.specs.Sized.{Sized}
 use Rattle.statements.specs.Words.{Admitted, Recovered, rowValue, shown, stands, after}
-use Rattle.statements.specs.ShowWords.{Shown, RecoveredShows, CutShows, CommittedShows}
+use Rattle.statements.specs.ShowWords.{Shown, RestingShows, RecoveredShows, CutShows, CommittedShows}
 use Rattle.demands.specs.Demand2.{demand-2}
 use Rattle.demands.specs.Demand3.{demand-3}
+
+-- AT ANY TIME
+pub resting-shows : RestingShows
+resting-shows T z rest sound few early = store-shows T z rest sound few early (rowValue T) (λ r lt. refl)
 
 -- what recovery leaves shows what its rows hold: nobody is active
 mended-shows : (S T : Store) (value : ℕ → Value) → Recovered S T → S .clock < clockEnd → ((r : ℕ) → r < rows → rowValue T r ≡ value r) → Shown T value

@@ -5,7 +5,7 @@ use mathlib.Core.List.{List}
 use mathlib.Core.Logic.{_↔_, _≢_, _⊎_}
 use Prim.Native.Nat.{ℕ, _%_, _≤_, _<_}
 use lib.ListN.{length, getD}
-use Rattle.records.specs.Limits.{rows, stripes, readLimit, keyEnd, clockEnd}
+use Rattle.records.specs.Limits.{rows, stripes, activeLimit, readLimit, keyEnd, clockEnd}
 use Rattle.records.specs.Zero.{emptyStore}
 use Rattle.rules.specs.Lists.{memb}
 use Rattle.rules.specs.Types.{Store, Tx, Schedule, Cut, Uncut, Value, Key, Found}
@@ -54,6 +54,11 @@ pub record Shown (T : Store) (value : ℕ → Value) : Type 0 where
       × (length found ≤ readLimit → Answered T k found a)
       × ((numberOf (a .refusal) ≡ 24) ↔ (readLimit < length found))
 
+-- AT ANY TIME: an unpoisoned store at rest with room for one more transaction shows what its rows hold, whoever else is active
+abbrev pub RestingShows : Type 0
+RestingShows = (T : Store) → Sized T → resting T ≡ true → T .poisoned ≡ false → length (activeTxids (T .active)) < activeLimit → T .clock < clockEnd
+    → Shown T (rowValue T)
+
 -- AFTER RECOVERY: of any repairable store, each row shows the value of its first version whose creator is finished
 abbrev pub RecoveredShows : Type 0
 RecoveredShows = (S : Store) → Sized S → Keyed S → repairable S ≡ true → S .clock < clockEnd
@@ -81,7 +86,7 @@ pub data Reached : Store → Type 0 where
   committed : (S : Store) → Reached S → (x : Tx) (logged : Bool) (plan : Schedule) (cut : Cut) → Reached (commit S x logged plan cut .store)
   recovered : (S : Store) → Reached S → Reached (recover S .store)
 
--- what each of them has; so recovery of each shows each row's last finished value, with index_conflict down at every key
+-- what each of them has; so recovery of each shows the value of each row's first finished version, index_conflict down at every key
 pub record Sound (S : Store) : Type 0 where
   pub sized : Sized S
   pub keyed : Keyed S
@@ -89,4 +94,4 @@ pub record Sound (S : Store) : Type 0 where
   pub stamped : Stamped S
 
 abbrev pub ReachedShows : Type 0
-ReachedShows = (S : Store) → Reached S → Sound S × (S .clock < clockEnd → Shown (recover S .store) (shown S))
+ReachedShows = (S : Store) → Reached S → Sound S × (S .clock < clockEnd → Shown (recover S .store) (shown S) × Stamped (recover S .store))
