@@ -10,7 +10,7 @@ use lib.Dec.{eqb, ltb, leb}
 use borrow.Author.Tests.{eqb-false, ne-eqb, ltb-true, ltb-false, lt-ltb, le-ltb, lt-leb, not-true}
 use Rattle.records.specs.Limits.{rows, slots, stripes, activeLimit, readLimit, clockEnd}
 use Rattle.rules.specs.Lists.{any, memb, pad, firstOf, rising}
-use Rattle.rules.specs.Types.{Store, ReadRecord, RowId, Value, Absent, Key, Seen}
+use Rattle.rules.specs.Types.{Store, Tx, ReadRecord, RowId, Value, Absent, Key, Seen}
 use Rattle.rules.specs.Store.{sameValue, carries, activeTxids}
 use Rattle.rules.specs.Transaction.{writesOf, readsOf, sees, lastOwn}
 use Rattle.rules.specs.Chains.{chainFrom}
@@ -24,11 +24,12 @@ use Rattle.basic_laws.specs.Cases.{by, clash, iff, and-true, and-false, or-fals
 use Rattle.basic_laws.specs.Members.{at-mem, mem-all}
 use Rattle.basic_laws.specs.Rising.{unique, rising-from, rising-unique, rising-ext, rising-short}
 use Rattle.basic_laws.specs.Rearranged.{or-none}
-use Rattle.basic_laws.specs.LaidOut.{before-take, pad-length}
+use Rattle.basic_laws.specs.LaidOut.{before-take, pad-length, take-pad}
+use Rattle.records.specs.Zero.{noRead}
 use Rattle.basic_laws.specs.Chain.{chain-head}
 use Rattle.statements.specs.Sized.{Sized}
 use Rattle.statements.specs.Words.{rowValue}
-use Rattle.statements.specs.ShowWords.{Unseen, Answered, Shown}
+use Rattle.statements.specs.ShowWords.{Unseen, Answered, AfterReads, unread, again, Shown}
 use Rattle.statements.specs.OtherNumbers.{beginLines, readLines, lookupLines}
 use Rattle.posting_laws.specs.RestingPostings.{exact}
 use Rattle.posting_laws.specs.HeadsTold.{value-same, carries-key}
@@ -40,6 +41,7 @@ use Rattle.call_laws.specs.Refusals.{begin-told, begin-accepted, read-to
 use Rattle.call_laws.specs.Keeps.{Keeps}
 use Rattle.posting_laws.specs.Written.{rowsOf}
 use Rattle.call_laws.specs.BeginLaws.{begin-keeps}
+use Rattle.call_laws.specs.KeepsReads.{read-keeps}
 use Rattle.call_laws.specs.CandidateRows.{candidates-rise, candidate-below, matching-rise, matching-is}
 
 -- a rising list, place by place
@@ -71,9 +73,9 @@ any-more {ℓ} : {A : Type ℓ} (f : A → Bool) (l : List A) (e : A) → any f 
 any-more f [] e h k = rw k
 any-more f (x ∷ l) e h k = let o = or-false (f x) (any f l) h in or-neither (f x) (any f (l ++ e ∷ [])) (o .0) (any-more f l e (o .1) k)
 
-at-most-one {ℓ} : {A : Type ℓ} (b : Bool) (e : A) → length (cond b [] (e ∷ [])) ≤ 1
-at-most-one true e = omega arith
-at-most-one false e = omega arith
+one-more {ℓ} : {A : Type ℓ} (b : Bool) (l : List A) (e : A) → length (cond b l (l ++ e ∷ [])) ≤ suc (length l)
+one-more true l e = omega arith
+one-more false l e = omega (arith, length-append l (e ∷ []))
 
 -- the store that begin leaves
 abbrev entered : Store → Store
@@ -146,20 +148,39 @@ module _ (T : Store) (z : Sized T) (rest : resting T ≡ true) (sound : T .poiso
   reads-head r lt =
       rw (no-own r) (head-first (λ p. sees (begun T) (getD (T .xmin) p 0)) slots (T .next) (getD (T .heads) r 0) (sees-head r lt))
 
-  -- a read of any row is accepted, and gives its value
-  value-read : (r : ℕ) → r < rows → let a = read (entered T) (begun T) r in (numberOf (a .refusal) ≡ 0) × (a .value ≡ rowValue T r)
-  unfolding recordRead
-  value-read r lt =
-      let p = readPtr (entered T) (begun T) r in
-      let l = recordRead (entered T) (begun T) r (readsOf (begun T)) in
-      let short : length l ≤ readLimit = rw none-read (omega (
-        arith,
-        at-most-one
-            (eqb p 0 || (not (eqb (lastOwn r (writesOf (begun T)) .new .0) 0) || false)) (entry T r p),
-      )) in
-      let h = applies-none (read (entered T) (begun T) r .refusal) (readLines (entered T) (begun T) r) (read-told (entered T) (begun T) r)
-      (rw (keeps .rests), (rw (keeps .fits), (rw (keeps .active), (sound, (lt-leb rows r lt, (le-ltb readLimit (length l) short, tt)))))) in
-      (h, ap (λ (a : Seen). a .value) (read-accepted (entered T) (begun T) r h) ∙ rw (reads-head r lt))
+  -- what stays of the new transaction after n reads: it can go on, reads what it would have read, and has at most n reads
+  record Reader (n : ℕ) (y : Tx) : Type 0 where
+    goes-on : Keeps (entered T) y
+    same : (r : ℕ) → readPtr (entered T) y r ≡ readPtr (entered T) (begun T) r
+    read : length (readsOf y) ≤ n
+
+  -- one read more: it is accepted, gives the row's value, and leaves such a one
+  reads-on : (n : ℕ) (y : Tx) → Reader n y → n < readLimit → (r : ℕ) → r < rows
+      → (numberOf (read (entered T) y r .refusal) ≡ 0) × (read (entered T) y r .value ≡ rowValue T r) × Reader (suc n) (read (entered T) y r .tx)
+  unfolding recordRead readPtr visibleVersion sees
+  reads-on n y K lt r l =
+      let m = recordRead (entered T) y r (readsOf y) in
+      let p = readPtr (entered T) y r in
+      let one : length m ≤ suc (length (readsOf y)) = one-more
+      (eqb p 0 || (not (eqb (lastOwn r (writesOf y) .new .0) 0) || any (λ e. eqb (e .ptr .0) p) (readsOf y))) (readsOf y) (entry T r p) in
+      let short : length m ≤ readLimit = omega (arith, one, K .read) in
+      let G = K .goes-on in
+      let h = applies-none (read (entered T) y r .refusal) (readLines (entered T) y r) (read-told (entered T) y r)
+      (rw (G .rests), (rw (G .fits), (rw (G .active), (sound, (lt-leb rows r l, (le-ltb readLimit (length m) short, tt)))))) in
+      let e = read-accepted (entered T) y r h in (
+        h,
+        ap (λ (a : Seen). a .value) e ∙ rw (K .same r, reads-head r l),
+        record {
+          goes-on = read-keeps (entered T) y r (G .sized) (G .shaped) h;
+          same = λ q. rw e (K .same q);
+          read = rw (e, take-pad readLimit noRead m short) (omega (arith, one, K .read));
+        },
+      )
+
+  -- so after any reads
+  reader : (n : ℕ) (y : Tx) → AfterReads (entered T) (begun T) n y → n ≤ readLimit → Reader n y
+  reader _ _ unread le = record { goes-on = keeps; same = λ r. refl; read = rw none-read (omega arith) }
+  reader _ _ (again {n = n} {y = y} h r l) le = reads-on n y (reader n y h (omega arith)) (omega arith) r l .2
 
   -- two rows have no head in common
   heads-apart : (r q : ℕ) → r < rows → q < rows → (getD (T .heads) r 0 ≡ 0 → ⊥) → getD (T .heads) r 0 ≡ getD (T .heads) q 0 → r ≡ q
@@ -306,7 +327,8 @@ store-shows T z rest sound few early value same =
     let e = begin-accepted T h in
     record {
       begins = h;
-      reads = λ r lt. let a = value-read T z rest sound few early r lt in rw e (a .0, a .1 ∙ same r lt);
+      reads = rw e (λ n y k m r lt. let a = reads-on T z rest sound few early n y (reader T z rest sound few early n y k (omega arith)) m r lt in
+          (a .0, a .1 ∙ same r lt));
       looks = λ k. rw e (
         candidates (entered T) (begun T) k,
         record {

@@ -3,7 +3,7 @@ use mathlib.Core.Path.{_≡_}
 use mathlib.Core.Bool.{Bool, true, false}
 use mathlib.Core.List.{List}
 use mathlib.Core.Logic.{_↔_, _≢_, _⊎_}
-use Prim.Native.Nat.{ℕ, _%_, _≤_, _<_}
+use Prim.Native.Nat.{ℕ, suc, _%_, _≤_, _<_}
 use lib.ListN.{length, getD}
 use Rattle.records.specs.Limits.{rows, stripes, activeLimit, readLimit, keyEnd, clockEnd}
 use Rattle.records.specs.Zero.{emptyStore}
@@ -42,12 +42,17 @@ pub record Answered (T : Store) (k : ℕ) (found : List ℕ) (a : Found) : Type 
   pub down : Stamped T → a .tx .«index_conflict» ≡ false
   pub up : (a .tx .«index_conflict» ≡ true) ↔ Unseen T (getD (T .stamps) (k % stripes) 0)
 
--- T shows these values: begin is accepted; then a read of any row gives its value, and a lookup of any key exactly the rows with it, or 24
--- exactly where they are more than a transaction can record
+-- y is what is left of x after n reads on U, one after the other
+pub data AfterReads (U : Store) (x : Tx) : ℕ → Tx → Type 0 where
+  unread : AfterReads U x 0 x
+  again : {n : ℕ} {y : Tx} → AfterReads U x n y → (r : ℕ) → r < rows → AfterReads U x (suc n) (read U y r .tx)
+
+-- T shows these values: begin is accepted; then a read of any row gives its value, as often as a transaction can record reads, and a lookup of any
+-- key exactly the rows with it, or 24 exactly where they are more than a transaction can record
 pub record Shown (T : Store) (value : ℕ → Value) : Type 0 where
   pub begins : numberOf (begin T .refusal) ≡ 0
-  pub reads : (r : ℕ) → r < rows
-      → let a = read (begin T .store) (begin T .tx) r in (numberOf (a .refusal) ≡ 0) × (a .value ≡ value r)
+  pub reads : (n : ℕ) (y : Tx) → AfterReads (begin T .store) (begin T .tx) n y → n < readLimit
+      → (r : ℕ) → r < rows → let a = read (begin T .store) y r in (numberOf (a .refusal) ≡ 0) × (a .value ≡ value r)
   pub looks : (k : ℕ) → let a = lookup (begin T .store) (begin T .tx) k in
       (found : List ℕ)
       × RowsWith value k found
