@@ -81,7 +81,8 @@ CommittedShows = (S : Store) (x : Tx) (logged : Bool) (plan : Schedule) → Size
     → let a = commit S x logged plan Uncut in
     isDone (a .refusal) ≡ true → Shown (a .store) (withNew (S .key) (S .has) (finals x) (rowValue S)) × (Stamped S → Stamped (a .store))
 
--- EVERY STORE THAT THE CALLS REACH from the empty one: whatever they are given, whatever they answer, wherever a commit is cut
+-- EVERY STORE THAT THE CALLS REACH from the empty one: whatever they are given, whatever they answer, wherever a commit is cut (read and lookup
+-- answer no store)
 pub data Reached : Store → Type 0 where
   empty : (bound : Bool) → Reached (emptyStore bound)
   begun : (S : Store) → Reached S → Reached (begin S .store)
