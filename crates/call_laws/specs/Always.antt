@@ -52,7 +52,7 @@ fresh-sized = record {
 }
 
 -- an accepted call, or a refused one
-either : {A : Type 0} (n : ℕ) → (n ≡ 0 → A) → ((n ≡ 0 → ⊥) → A) → A
+pub either : {A : Type 0} (n : ℕ) → (n ≡ 0 → A) → ((n ≡ 0 → ⊥) → A) → A
 either n f g = by (eqb n 0) (λ e. f (eqb-true n 0 e)) (λ e. g (eqb-false n 0 e))
 
 module _ (S : Store) (z : Sized S) (k : resting S ≡ true) where

@@ -1,21 +1,14 @@
 -- "counts within limits, unused places zero": the test of a fit transaction's lists taken into its parts, and put together again.
 use mathlib.Core.Path.{_≡_}
 use mathlib.Core.Bool.{Bool, true, _&&_}
-use lib.ListN.{length, drop}
+use lib.ListN.{drop}
 use lib.Dec.{eqb, leb}
 use Rattle.records.specs.Limits.{activeLimit, writeLimit, readLimit, indexReadLimit, savepointLimit}
 use Rattle.rules.specs.Lists.{all, allZero}
 use Rattle.rules.specs.Types.{Tx, Write, ReadRecord, IndexRead}
 use Rattle.rules.specs.Fit.{countsFit}
 use Rattle.basic_laws.specs.Cases.{every-each, every-none, cons-every}
-
--- the arrays' lengths: Rattle's types give them, the definitions' lists don't carry them
-pub record SizedTx (x : Tx) : Type 0 where
-  pub snapshot : length (x .snapshot) ≡ activeLimit
-  pub writes : length (x .writes) ≡ writeLimit
-  pub reads : length (x .reads) ≡ readLimit
-  pub «index_reads» : length (x .«index_reads») ≡ indexReadLimit
-  pub savepoints : length (x .savepoints) ≡ savepointLimit
+pub use Rattle.statements.specs.Sized.{SizedTx}
 
 -- an unused place
 abbrev pub blankWrite : Write → Bool

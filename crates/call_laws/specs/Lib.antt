@@ -20,6 +20,7 @@ pub mod CandidateRows
 pub mod OneByOne
 pub mod StampLaws
 pub mod LookupLaws
+pub mod JustBegun
 pub mod RowLockLaws
 pub mod AbortLaws
 pub mod CommitAborts
@@ -27,3 +28,4 @@ pub mod CommitAborts
 pub mod Others
 pub mod CommitOthers
 pub mod Always
+pub mod StampsKept

@@ -3,26 +3,31 @@ use mathlib.Core.Path.{_≡_, refl}
 use mathlib.Core.Bool.{Bool, true}
 use mathlib.Core.List.{List, [], _∷_}
 use mathlib.Core.Logic.{_↔_}
-use Prim.Native.Nat.{ℕ, suc, _<_}
-use lib.ListN.{getD}
+use Prim.Native.Nat.{ℕ, suc, _≤_, _<_}
+use lib.ListN.{length, getD}
+use native.Mathlib.Omega.{arith}
 use lib.Dec.{ltb}
 use borrow.Author.Tests.{lt-ltb}
-use Rattle.records.specs.Limits.{keyEnd}
+use Rattle.records.specs.Limits.{rows, readLimit, keyEnd, clockEnd}
 use Rattle.records.specs.Zero.{noFaults}
 use Rattle.basic_laws.specs.Cases.{and-both}
 use Rattle.rules.specs.Lists.{all}
-use Rattle.rules.specs.Types.{Store, Tx, Schedule, Answer, Mended, Cut, Uncut}
-use Rattle.rules.specs.Admitted.{resting}
+use Rattle.rules.specs.Types.{Store, Tx, Schedule, Answer, Mended, Reply, Seen, Found, Cut, Uncut}
+use Rattle.rules.specs.Transaction.{finals}
+use Rattle.rules.specs.Admitted.{repairable, resting}
 use Rattle.rules.specs.Numbers.{numberOf, isDone}
+use Rattle.rules.specs.Calls.{begin, read, lookup}
 use Rattle.rules.specs.Answer.{commit}
 use Rattle.rules.specs.Recovery.{recover}
 use Rattle.statements.specs.Sized.{Sized, Keyed}
 use Rattle.statements.specs.Table.{firstRow, Answers}
-use Rattle.statements.specs.Words.{Conflicts, Committed, Safe, Quiet}
+use Rattle.statements.specs.Words.{Conflicts, Committed, Safe, Quiet, rowValue, shown, withNew}
+use Rattle.statements.specs.ShowWords.{RowsWith, Answered, unread}
 use Rattle.statements.specs.NumbersSeen.{commitRows, doneRow}
 use Rattle.demands.specs.Demand1.{demand-1}
 use Rattle.demands.specs.Demand2.{demand-2}
 use Rattle.demands.specs.Demand3.{demand-3}
+use Rattle.demands.specs.Shows.{recovered-shows, committed-shows}
 
 -- a list whose places all hold keys
 pub all-keys : (l : List ℕ) → ((i : ℕ) → getD l i 0 < keyEnd) → all (λ k. ltb k keyEnd) l ≡ true
@@ -44,7 +49,37 @@ module _ (S : Store) (x : Tx) (logged : Bool) (z : Sized S) (k : Keyed S) where
   commits-quietly p e =
       (rw p at e, λ q. rw (e, p) (demand-2 S x logged noFaults z k q))
 
+  -- what is shown after it
+  pub reads-committed : {plan : Schedule} {c : Answer} {b : Reply} → plan ≡ noFaults → c ≡ commit S x logged plan Uncut → b ≡ begin (c .store)
+      → (r : ℕ) {a : Seen} → a ≡ read (b .store) (b .tx) r
+      → (a ≡ read (begin (commit S x logged noFaults Uncut .store) .store) (begin (commit S x logged noFaults Uncut .store) .tx) r)
+      × (Quiet S x logged noFaults → S .clock < clockEnd → isDone (commit S x logged noFaults Uncut .refusal) ≡ true → r < rows
+      → (numberOf (a .refusal) ≡ 0) × (a .value ≡ withNew (S .key) (S .has) (finals x) (rowValue S) r))
+  reads-committed p e f r g =
+      let same = rw (f, e, p) at g in (
+        same,
+        λ q early d lt. rw same
+            (committed-shows S x logged noFaults z k q early d .0 .reads 0 (begin (commit S x logged noFaults Uncut .store) .tx) unread (omega arith) r lt),
+      )
+
   -- demand 3, of a recovery of what a commit left
   pub survives : (plan : Schedule) (cut : Cut) {a : Answer} {r : Mended} → a ≡ commit S x logged plan cut → r ≡ recover (a .store)
       → (r ≡ recover (commit S x logged plan cut .store)) × (resting S ≡ true → Safe S x logged plan (commit S x logged plan cut .store))
   survives plan cut e f = (rw e at f, λ rest. demand-3 S x logged plan z k rest cut)
+
+-- what is shown after recovery, of what begin, read and lookup answer there
+module _ (S : Store) (z : Sized S) (k : Keyed S) {m : Mended} {b : Reply} (e : m ≡ recover S) (f : b ≡ begin (m .store)) where
+  pub reads-after : (r : ℕ) {a : Seen} → a ≡ read (b .store) (b .tx) r
+      → (a ≡ read (begin (recover S .store) .store) (begin (recover S .store) .tx) r)
+      × (repairable S ≡ true → S .clock < clockEnd → r < rows → (numberOf (a .refusal) ≡ 0) × (a .value ≡ shown S r))
+  reads-after r g =
+      let same = rw (f, e) at g in
+      (same, λ mends early lt. rw same (recovered-shows S z k mends early .0 .reads 0 (begin (recover S .store) .tx) unread (omega arith) r lt))
+
+  pub looks-after : (q : ℕ) {a : Found} → a ≡ lookup (b .store) (b .tx) q
+      → (a ≡ lookup (begin (recover S .store) .store) (begin (recover S .store) .tx) q)
+      × (repairable S ≡ true → S .clock < clockEnd → (found : List ℕ) × RowsWith (shown S) q found
+      × (length found ≤ readLimit → Answered (recover S .store) q found a) × ((numberOf (a .refusal) ≡ 24) ↔ (readLimit < length found)))
+  looks-after q g =
+      let same = rw (f, e) at g in
+      (same, λ mends early. rw same (recovered-shows S z k mends early .0 .looks q))

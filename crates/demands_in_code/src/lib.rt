@@ -3,21 +3,34 @@
 
 ghost use mathlib.Core.Path.{_≡_};
 ghost use mathlib.Core.Bool.{true};
+ghost use mathlib.Core.List.{List};
 ghost use mathlib.Core.Logic.{_↔_};
+ghost use Prim.Native.Nat.{ℕ, _≤_, _<_};
+ghost use lib.ListN.{length};
+ghost use Rattle.records.specs.Limits.{rows, readLimit, clockEnd};
 ghost use Rattle.records.specs.Zero.{noFaults};
 ghost use Rattle.rules.specs.Types.{Uncut};
-ghost use Rattle.rules.specs.Admitted.{resting};
+ghost use Rattle.rules.specs.Transaction.{finals};
+ghost use Rattle.rules.specs.Admitted.{repairable, resting};
 ghost use Rattle.rules.specs.Numbers.{numberOf, isDone};
+ghost use Rattle.rules.specs.Calls.{begin, read, lookup};
 ghost use Rattle.rules.specs.Answer.{commit};
 ghost use Rattle.rules.specs.Recovery.{recover};
 ghost use Rattle.statements.specs.Table.{firstRow, Answers};
-ghost use Rattle.statements.specs.Words.{Conflicts, Committed, Safe, Quiet};
+ghost use Rattle.statements.specs.Words.{Conflicts, Committed, Safe, Quiet, rowValue, shown, withNew};
+ghost use Rattle.statements.specs.ShowWords.{RowsWith, Answered};
 ghost use Rattle.statements.specs.NumbersSeen.{commitRows, doneRow};
+use calls::begin::begin;
+use calls::lookup::lookup;
+use calls::read::read;
 use commit::commit;
 use records::Answer;
 use records::Cut;
+use records::Found;
 use records::Mended;
+use records::RowId;
 use records::Schedule;
+use records::Seen;
 use records::Store;
 use records::Tx;
 use recovery::recover;
@@ -45,4 +58,46 @@ pub fn commit_and_recover(s: Store, x: Tx, logged: bool, plan: Schedule, cut: Cu
     let a = commit(s, x, logged, plan, cut);
     let left = a.store;
     recover(left)
+}
+
+// What is shown after recovery of any repairable store: a transaction begun then reads the value of a row's first finished version.
+pub fn recover_and_read(s: Store, r: RowId) -> Seen
+    ensures { λ a. ⌜ (a ≡ read (begin (recover s .store) .store) (begin (recover s .store) .tx) (r .0))
+        × (repairable s ≡ true → s .clock < clockEnd → r .0 < rows → (numberOf (a .refusal) ≡ 0) × (a .value ≡ shown s (r .0))) ⌝ }
+{
+    let mended = recover(s);
+    let left = mended.store;
+    let begun = begin(left);
+    let t = begun.store;
+    let x = begun.tx;
+    read(t, x, r)
+}
+
+// And it looks up exactly the rows with a key.
+pub fn recover_and_look(s: Store, k: u32) -> Found
+    ensures { λ a. ⌜ (a ≡ lookup (begin (recover s .store) .store) (begin (recover s .store) .tx) k)
+        × (repairable s ≡ true → s .clock < clockEnd → (found : List ℕ) × RowsWith (shown s) k found
+        × (length found ≤ readLimit → Answered (recover s .store) k found a) × ((numberOf (a .refusal) ≡ 24) ↔ (readLimit < length found))) ⌝ }
+{
+    let mended = recover(s);
+    let left = mended.store;
+    let opened = begin(left);
+    let u = opened.store;
+    let y = opened.tx;
+    lookup(u, y, k)
+}
+
+// What is shown after a successful commit: a transaction begun then reads every final write, and every other row's old value.
+pub fn commit_and_read(s: Store, x: Tx, logged: bool, r: RowId) -> Seen
+    ensures { λ a. ⌜ (a ≡ read (begin (commit s x logged noFaults Uncut .store) .store) (begin (commit s x logged noFaults Uncut .store) .tx) (r .0))
+        × (Quiet s x logged noFaults → s .clock < clockEnd → isDone (commit s x logged noFaults Uncut .refusal) ≡ true → r .0 < rows
+        → (numberOf (a .refusal) ≡ 0) × (a .value ≡ withNew (s .key) (s .has) (finals x) (rowValue s) (r .0))) ⌝ }
+{
+    let faultless = Schedule::none();
+    let answered = commit(s, x, logged, faultless, Cut::Uncut);
+    let stands = answered.store;
+    let next = begin(stands);
+    let v = next.store;
+    let z = next.tx;
+    read(v, z, r)
 }

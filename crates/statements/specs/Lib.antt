@@ -2,6 +2,7 @@
 pub mod Sized
 -- The paper's sentences in words, section by section.
 pub mod StoreWords
+pub mod AdmittedWords
 pub mod ReadWords
 pub mod CallWords
 pub mod StepWords
