@@ -25,7 +25,7 @@ use Rattle.recovery_laws.specs.OwnFreed.{frees-rest}
 use Rattle.recovery_laws.specs.Start.{own-idle, own-mine, steady}
 use Rattle.recovery_laws.specs.Sizes.{sized-all}
 use Rattle.admitted_laws.specs.Resting.{Rests, rests, rested}
-use Rattle.call_laws.specs.Refusals.{abort-accepted}
+use Rattle.sentences.specs.Refusals.{abort-accepted}
 use Rattle.call_laws.specs.Passed.{abort-passed}
 use Rattle.basic_laws.specs.LaidOut.{pad-length}
 use Rattle.basic_laws.specs.Placed.{getD-any}

@@ -14,7 +14,7 @@ use Rattle.rules.specs.Computing.{computing}
 use Rattle.basic_laws.specs.Cases.{by}
 use Rattle.statements.specs.Sized.{Sized}
 use Rattle.admitted_laws.specs.Resting.{rests}
-use Rattle.call_laws.specs.Refusals.{begin-refused, begin-accepted, write-refused, rowLock-refused, rowLock-accepted, abort-refused}
+use Rattle.sentences.specs.Refusals.{begin-refused, begin-accepted, write-refused, rowLock-refused, rowLock-accepted, abort-refused}
 use Rattle.call_laws.specs.Counts.{SizedTx}
 use Rattle.call_laws.specs.BeginLaws.{begin-keeps}
 use Rattle.call_laws.specs.RowLockLaws.{rowLock-keeps}

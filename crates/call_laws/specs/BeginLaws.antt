@@ -35,7 +35,7 @@ use Rattle.basic_laws.specs.Places.{Rising, is-rising, from-zero}
 use Rattle.admitted_laws.specs.Repairable.{ActiveForm}
 use Rattle.recovery_laws.specs.Sizes.{sized-all}
 use Rattle.admitted_laws.specs.Resting.{Rests, rests, rested}
-use Rattle.call_laws.specs.Refusals.{begin-accepted}
+use Rattle.sentences.specs.Refusals.{begin-accepted}
 use Rattle.call_laws.specs.Passed.{begin-passed}
 use Rattle.recovery_laws.specs.Carried.{listed-rest}
 use Rattle.recovery_laws.specs.Unfinished.{finished-same}

@@ -33,7 +33,7 @@ use Rattle.run_laws.specs.OwnSlots.{parts-own}
 use Rattle.recovery_laws.specs.Unfinished.{dropped, dropped-gone}
 use Rattle.recovery_laws.specs.Start.{txid-positive}
 use Rattle.admitted_laws.specs.Resting.{rests}
-use Rattle.call_laws.specs.Refusals.{abort-accepted}
+use Rattle.sentences.specs.Refusals.{abort-accepted}
 use Rattle.call_laws.specs.Passed.{abort-passed}
 use Rattle.call_laws.specs.AbortLaws.{ownOf, aborted-is, wiped-all}
 

@@ -36,8 +36,8 @@ use Rattle.posting_laws.specs.HeadsTold.{value-same, carries-key}
 use Rattle.posting_laws.specs.LookupFinds.{candidate-rows}
 use Rattle.admitted_laws.specs.Resting.{Rests, rests}
 use Rattle.recovery_laws.specs.Unfinished.{active-in, active-unfinished}
-use Rattle.call_laws.specs.FirstLine.{applies-none}
-use Rattle.call_laws.specs.Refusals.{begin-told, begin-accepted, read-told, read-accepted, lookup-told, lookup-accepted}
+use Rattle.sentences.specs.FirstLine.{applies-none}
+use Rattle.sentences.specs.Refusals.{begin-told, begin-accepted, read-told, read-accepted, lookup-told, lookup-accepted}
 use Rattle.call_laws.specs.Keeps.{Keeps}
 use Rattle.posting_laws.specs.Written.{rowsOf}
 use Rattle.call_laws.specs.BeginLaws.{begin-keeps}

@@ -20,7 +20,7 @@ use Rattle.statements.specs.Sized.{Sized}
 use Rattle.basic_laws.specs.TestParts.{fit-parts, parts-fit}
 use Rattle.basic_laws.specs.LaidOut.{pad-length, take-pad}
 use Rattle.admitted_laws.specs.Resting.{Rests, rests}
-use Rattle.call_laws.specs.Refusals.{read-accepted}
+use Rattle.sentences.specs.Refusals.{read-accepted}
 use Rattle.call_laws.specs.Passed.{read-passed}
 use Rattle.basic_laws.specs.Blanks.{all-more, drop-pad}
 use Rattle.statements.specs.ReadWords.{Reading, own, found, known, absent, readOf}

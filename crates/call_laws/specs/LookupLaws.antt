@@ -30,7 +30,7 @@ use Rattle.basic_laws.specs.LaidOut.{pad-length, take-pad}
 use Rattle.sentences.specs.ReadsSay.{not-seen, laid-out, kept-both, reads-alone, index-reads-alone, stamp-says}
 use Rattle.admitted_laws.specs.Resting.{Rests}
 use Rattle.basic_laws.specs.Blanks.{drop-pad}
-use Rattle.call_laws.specs.Refusals.{looked, lookup-told, lookup-accepted}
+use Rattle.sentences.specs.Refusals.{looked, lookup-told, lookup-accepted}
 use Rattle.call_laws.specs.Passed.{Admitted, LookupPassed, lookup-passed}
 use Rattle.call_laws.specs.ReadLaws.{reading, reading-one}
 use Rattle.call_laws.specs.Counts.{SizedTx, blankIndexRead, counts-parts, parts-counts}

@@ -20,10 +20,10 @@ use Rattle.basic_laws.specs.Cases.{and-true, mem-here, mem-there}
 use Rattle.statements.specs.Sized.{Sized}
 use Rattle.basic_laws.specs.TestParts.{fit-parts}
 use Rattle.basic_laws.specs.LaidOut.{take-pad, pad-take}
-use Rattle.call_laws.specs.FirstLine.{applies-none}
+use Rattle.sentences.specs.FirstLine.{applies-none}
 use Rattle.statements.specs.OtherNumbers.{readLines}
 use Rattle.statements.specs.ReadWords.{readAll, AllRead}
-use Rattle.call_laws.specs.Refusals.{read-told, read-accepted}
+use Rattle.sentences.specs.Refusals.{read-told, read-accepted}
 use Rattle.call_laws.specs.Passed.{Admitted}
 use Rattle.call_laws.specs.Counts.{SizedTx, blankRead, counts-parts}
 use Rattle.call_laws.specs.Keeps.{Keeps}

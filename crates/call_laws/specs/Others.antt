@@ -17,7 +17,7 @@ use Rattle.basic_laws.specs.Cases.{or-left}
 use Rattle.statements.specs.Sized.{Sized}
 use Rattle.basic_laws.specs.Rising.{mem-without}
 use Rattle.admitted_laws.specs.Resting.{Rests, rests, rested}
-use Rattle.call_laws.specs.Refusals.{begin-accepted, rowLock-accepted}
+use Rattle.sentences.specs.Refusals.{begin-accepted, rowLock-accepted}
 use Rattle.call_laws.specs.StaysFit.{on-same, stays-fit}
 use Rattle.call_laws.specs.Counts.{SizedTx}
 use Rattle.call_laws.specs.Keeps.{Keeps}

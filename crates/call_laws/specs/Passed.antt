@@ -13,9 +13,9 @@ use Rattle.rules.specs.Admitted.{resting}
 use Rattle.rules.specs.Fit.{fit}
 use Rattle.rules.specs.Numbers.{numberOf}
 use Rattle.rules.specs.Calls.{begin, recordRead, read, lowestFree, write, candidates, recordReads, lookup, lockedByAnother, rowLock, abort}
-use Rattle.call_laws.specs.FirstLine.{none-applies}
+use Rattle.sentences.specs.FirstLine.{none-applies}
 use Rattle.statements.specs.OtherNumbers.{firstLines, beginLines, readLines, writeLines, lookupLines, rowLockLines}
-use Rattle.call_laws.specs.Refusals.{begin-told, read-told, write-told, lookup-told, rowLock-told, abort-told}
+use Rattle.sentences.specs.Refusals.{begin-told, read-told, write-told, lookup-told, rowLock-told, abort-told}
 
 -- begin: not 1, 9, 21, 22
 pub record BeginPassed (S : Store) : Type 0 where

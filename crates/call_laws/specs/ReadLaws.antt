@@ -30,7 +30,7 @@ use Rattle.basic_laws.specs.AllOf.{all-then}
 use Rattle.sentences.specs.ReadsSay.{sees-says, none-meant, meant-none, first-says, first-one, value-says, value-one, reads-alone}
 use Rattle.admitted_laws.specs.Repairable.{marks}
 use Rattle.admitted_laws.specs.Resting.{Rests}
-use Rattle.call_laws.specs.Refusals.{read-told, read-accepted}
+use Rattle.sentences.specs.Refusals.{read-told, read-accepted}
 use Rattle.call_laws.specs.Passed.{Admitted, read-passed}
 
 -- the creator of slot p is visible, as the definition tests it

@@ -25,7 +25,7 @@ use Rattle.statements.specs.CallWords.{Locks}
 use Rattle.admitted_laws.specs.Resting.{Rests, rests, rested}
 use Rattle.admitted_laws.specs.Repairable.{SlotForm}
 use Rattle.recovery_laws.specs.Sizes.{sized-apply}
-use Rattle.call_laws.specs.Refusals.{rowLock-accepted}
+use Rattle.sentences.specs.Refusals.{rowLock-accepted}
 use Rattle.call_laws.specs.Passed.{rowLock-passed}
 use Rattle.call_laws.specs.Counts.{SizedTx}
 use Rattle.recovery_laws.specs.Carried.{slots-rest}

@@ -39,8 +39,8 @@ use Rattle.recovery_laws.specs.ArraysKept.{blanks}
 use Rattle.recovery_laws.specs.PutBlocks.{guards-kinds, insert-kinds, remove-kinds}
 use Rattle.statements.specs.Sized.{Sized}
 use Rattle.statements.specs.ShowWords.{Stamped}
-use Rattle.call_laws.specs.Refusals.{begin-refused, begin-accepted, write-refused, write-accepted, rowLock-refused, rowLock-accepted}
-use Rattle.call_laws.specs.Refusals.{abort-refused, abort-accepted}
+use Rattle.sentences.specs.Refusals.{begin-refused, begin-accepted, write-refused, write-accepted, rowLock-refused, rowLock-accepted}
+use Rattle.sentences.specs.Refusals.{abort-refused, abort-accepted}
 use Rattle.call_laws.specs.BeginLaws.{mem-more, begin-begins}
 use Rattle.call_laws.specs.Always.{either}
 

@@ -28,7 +28,7 @@ use Rattle.basic_laws.specs.AllOf.{all-then}
 use Rattle.admitted_laws.specs.Repairable.{marks}
 use Rattle.recovery_laws.specs.Start.{txid-positive}
 use Rattle.admitted_laws.specs.Resting.{Rests, rests, rested}
-use Rattle.call_laws.specs.Refusals.{write-accepted}
+use Rattle.sentences.specs.Refusals.{write-accepted}
 use Rattle.call_laws.specs.Passed.{write-passed}
 use Rattle.basic_laws.specs.Blanks.{all-both, all-more, all-mid, drop-pad}
 use Rattle.statements.specs.ReadWords.{ofRow}

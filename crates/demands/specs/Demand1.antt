@@ -3,8 +3,8 @@
 use Rattle.rules.specs.Recovery.{recover}
 use Rattle.statements.specs.Demands.{Demand1, Demand1Others}
 use Rattle.number_laws.specs.Seen.{commit-told, commit-when}
-use Rattle.call_laws.specs.Refusals.{begin-told, read-told, write-told, lookup-told, rowLock-told, abort-told}
-use Rattle.call_laws.specs.Refusals.{begin-refused, read-refused, write-refused, lookup-refused, rowLock-refused, abort-refused}
+use Rattle.sentences.specs.Refusals.{begin-told, read-told, write-told, lookup-told, rowLock-told, abort-told}
+use Rattle.sentences.specs.Refusals.{begin-refused, read-refused, write-refused, lookup-refused, rowLock-refused, abort-refused}
 
 -- DEMAND 1, commit
 pub demand-1 : Demand1

@@ -31,8 +31,8 @@ use Rattle.recovery_laws.specs.EveryStore.{counted, keys-kept}
 use Rattle.recovery_laws.specs.Recovering.{recovery}
 use Rattle.recovery_laws.specs.Prefix.{prefix}
 use Rattle.recovery_laws.specs.Cuts.{recover-done, keyed-run}
-use Rattle.call_laws.specs.Refusals.{begin-refused, begin-accepted, write-refused, write-accepted, rowLock-refused, rowLock-accepted}
-use Rattle.call_laws.specs.Refusals.{abort-refused, abort-accepted}
+use Rattle.sentences.specs.Refusals.{begin-refused, begin-accepted, write-refused, write-accepted, rowLock-refused, rowLock-accepted}
+use Rattle.sentences.specs.Refusals.{abort-refused, abort-accepted}
 use Rattle.call_laws.specs.Passed.{begin-passed, write-passed, rowLock-passed, abort-passed}
 use Rattle.call_laws.specs.Always.{Stays, either, begin-stays, write-stays, rowLock-stays, abort-stays}
 use Rattle.call_laws.specs.StampsKept.{empty-stamped, begin-stamped, write-stamped, rowLock-stamped, abort-stamped, commit-stamped, recover-stamped}

@@ -1,32 +1,33 @@
 -- Every call keeps a resting store's index: postings in their form and, if not poisoned, exactly the heads'.
 use mathlib.Core.Path.{_≡_, refl, sym, _∙_}
-use mathlib.Core.Bool.{Bool, true, false, not}
+use mathlib.Core.Bool.{Bool, true, false}
 use mathlib.Core.List.{List, [], _∷_}
 use Prim.Native.Nat.{ℕ, suc, _+_, _<_}
 use native.Mathlib.Omega.{arith}
 use native.Mathlib.Nat.{add-zero, add-suc, suc-add}
 use lib.ListN.{length, getD, set, drop, length-drop}
 use lib.Seq.{getD-set-other, getD-drop}
-use lib.Dec.{eqb, ltb, leb}
+use lib.Dec.{eqb, ltb}
 use borrow.Author.Tests.{eqb-true, eqb-false, not-true}
-use Rattle.records.specs.Limits.{rows, keyEnd, writeLimit, activeLimit, clockEnd}
-use Rattle.rules.specs.Types.{Store, Tx, Schedule, Cut, Value, Absent, Key}
+use Rattle.records.specs.Limits.{keyEnd}
+use Rattle.rules.specs.Types.{Store, Tx, Schedule, Cut, Value, Absent, Key, Refusal}
 use Rattle.basic_laws.specs.Cases.{by, clash, mem-ne}
 use Rattle.rules.specs.Lists.{all, memb, isZero, nonzero, firstZero}
-use Rattle.rules.specs.Store.{postingsInForm, activeTxids}
+use Rattle.rules.specs.Store.{postingsInForm}
 use Rattle.rules.specs.Chains.{walk}
 use Rattle.rules.specs.Admitted.{resting}
-use Rattle.rules.specs.Fit.{fit}
-use Rattle.rules.specs.Numbers.{numberOf, Try, refuse, tries, isDone}
-use Rattle.rules.specs.Types.{NotResting, FoundPoisoned, ActiveFull, ClockAtEnd, RowTooHigh, LockedByAnother}
-use Rattle.rules.specs.Types.{NoHead, WritesFull, SlotsFull, Unfit, NotActive, Open, Closed}
+use Rattle.rules.specs.Numbers.{numberOf}
 use Rattle.rules.specs.Puts.{Put, kInsert, kRemove, kFree, kDrop, kPoison, kDoom, kEnter, kClock, kXmin}
 use Rattle.rules.specs.Puts.{kNext, kKey, kLock, applyAll, takeSlot, putEnter, putClock, putLock, abortPuts}
-use Rattle.rules.specs.Calls.{admitsHealthy, lockedByAnother, begin, write, rowLock, abort, lowestFree, baseOf, admits}
+use Rattle.rules.specs.Calls.{begin, write, rowLock, abort, lowestFree, baseOf}
 use Rattle.rules.specs.Answer.{commit}
 use Rattle.run_laws.specs.OnlyKinds.{only, kept, is-not}
 use Rattle.basic_laws.specs.Members.{each-or}
 use Rattle.statements.specs.Sized.{Sized}
+use Rattle.statements.specs.OtherNumbers.{writeLines}
+use Rattle.sentences.specs.FirstLine.{none-applies}
+use Rattle.sentences.specs.Refusals.{begin-accepted, begin-refused, rowLock-accepted, rowLock-refused, abort-accepted, abort-refused}
+use Rattle.sentences.specs.Refusals.{write-told, write-accepted, write-refused}
 use Rattle.run_laws.specs.Kinds.{abort-kinds}
 use Rattle.posting_laws.specs.RestingPostings.{Exact, Indexed, indexed, mendable}
 use Rattle.posting_laws.specs.Spared.{head-seen}
@@ -57,16 +58,17 @@ module _ (ks : List ℕ) (i : memb kInsert ks ≡ false) (r : memb kRemove ks �
     rest = λ q. (doomed-kept ks d ps T o ∙ h .rest (sym (poisoned-kept ks p d ps T o) ∙ q) .0, e q);
   }
 
+-- an answered call leaves one store where it is accepted, the store that was where it is refused
+answered : (why : Refusal) {T : Store} → (numberOf why ≡ 0 → Indexed T) → ((numberOf why ≡ 0 → ⊥) → Indexed T) → Indexed T
+answered why taken left = by (eqb (numberOf why) 0) (λ e. taken (eqb-true (numberOf why) 0 e)) (λ e. left (eqb-false (numberOf why) 0 e))
+
 -- "abort": the txid's off-chain slots freed, the txid dropped
 pub abort-indexed : (S : Store) (x : Tx) → Sized S → resting S ≡ true → Indexed (abort S x .store)
-unfolding abort
 abort-indexed S x sized r =
-    let h = indexed S r in
     let ks = kFree ∷ kDrop ∷ [] in
     let t = x .txid .0 in
-    by (isDone (admits S x []))
-    (λ e. rw e (indexed-then ks refl refl refl refl (abortPuts S t) S (abort-kinds ks refl refl S t) h (aborted-exact S t sized r)))
-    (λ e. rw e h)
+    let freed = indexed-then ks refl refl refl refl (abortPuts S t) S (abort-kinds ks refl refl S t) (indexed S r) (aborted-exact S t sized r) in
+    answered (abort S x .refusal) (λ e. rw (abort-accepted S x e) freed) (λ n. rw (abort-refused S x n) (indexed S r))
 
 -- puts that touch neither postings nor heads nor keys, poison nor doom
 abbrev elsewhere : List ℕ
@@ -79,36 +81,15 @@ indexed-kept ps T o h =
 
 -- "begin": the clock and the active list
 pub begin-indexed : (S : Store) → resting S ≡ true → Indexed (begin S .store)
-unfolding begin
-begin-indexed S r =
-    let why = tries (refuse (not (resting S)) (NotResting Open) ∷ refuse (S .poisoned) (FoundPoisoned Open)
-    ∷ refuse (leb activeLimit (length (activeTxids (S .active)))) (ActiveFull Open) ∷ refuse (leb clockEnd (S .clock)) (ClockAtEnd Open) ∷ []) in
-    let h = indexed S r in
-    by (isDone why) (λ e. rw e (indexed-kept (putEnter (S .clock) ∷ putClock (suc (S .clock)) ∷ []) S refl h)) (λ e. rw e h)
+begin-indexed S r = answered (begin S .refusal)
+    (λ e. rw (begin-accepted S e) (indexed-kept (putEnter (S .clock) ∷ putClock (suc (S .clock)) ∷ []) S refl (indexed S r)))
+    (λ n. rw (begin-refused S n) (indexed S r))
 
 -- "row lock": the head's lock
 pub lock-indexed : (S : Store) (x : Tx) (r : ℕ) → resting S ≡ true → Indexed (rowLock S x r .store)
-unfolding rowLock
-lock-indexed S x r rests =
-    let p = getD (S .heads) r 0 in
-    let why = admitsHealthy S x
-    (refuse (leb rows r) (RowTooHigh Open) ∷ refuse (lockedByAnother S (x .txid .0) p) (LockedByAnother Open) ∷ refuse (eqb p 0) (NoHead Open) ∷ []) in
-    let h = indexed S rests in
-    by (isDone why) (λ e. rw e (indexed-kept (putLock p (x .txid .0) ∷ []) S refl h)) (λ e. rw e h)
-
--- an answer 0 passed each test
-passed : (y : Try) (l : List Try) → isDone (y .says) ≡ false → isDone (tries (y ∷ l)) ≡ true → (y .when ≡ false) × (isDone (tries l) ≡ true)
-passed y l n h = by (y .when)
-    (λ e. clash (rw e at h) n)
-    (λ e. (e, rw e at h))
-
-admitted : (S : Store) (x : Tx) (more : List Try) → isDone (admits S x more) ≡ true → isDone (tries more) ≡ true
-unfolding admits
-admitted S x more h =
-    let active = refuse (not (memb (x .txid .0) (activeTxids (S .active)))) (NotActive Closed) in
-    let fits = refuse (not (fit S x)) (Unfit Open) in
-    let a = passed (refuse (not (resting S)) (NotResting Open)) (fits ∷ active ∷ more) refl h .1 in
-    passed active more refl (passed fits (active ∷ more) refl a .1) .1
+lock-indexed S x r rests = answered (rowLock S x r .refusal)
+    (λ e. rw (rowLock-accepted S x r e) (indexed-kept (putLock (getD (S .heads) r 0) (x .txid .0) ∷ []) S refl (indexed S rests)))
+    (λ n. rw (rowLock-refused S x r n) (indexed S rests))
 
 -- the place of the first 0, if there is one
 first-zero : (p : ℕ) (l : List ℕ) → eqb (firstZero p l) 0 ≡ false → (i : ℕ) × (firstZero p l ≡ p + i) × (i < length l) × (getD l i 0 ≡ 0)
@@ -146,20 +127,11 @@ taken-indexed S p t q (Key k) n h =
 
 -- "write": "the lowest free slot is taken"
 pub write-indexed : (S : Store) (x : Tx) (r : ℕ) (v : Value) → Sized S → resting S ≡ true → Indexed (write S x r v .store)
-unfolding write
-write-indexed S x r v sized rests =
-    let p = lowestFree (S .xmin) in
-    let h = indexed S rests in
-    let full = refuse (eqb p 0) (SlotsFull Open) ∷ [] in
-    let counted = refuse (leb writeLimit (x .«write_count»)) (WritesFull Open) ∷ full in
-    let rowed = refuse (leb rows r) (RowTooHigh Open) ∷ counted in
-    by (isDone (admitsHealthy S x rowed))
-    (λ e. let a = passed (refuse (S .poisoned) (FoundPoisoned Open)) rowed refl (admitted S x (refuse (S .poisoned) (FoundPoisoned Open) ∷ rowed) e) .1 in
-    let b = passed (refuse (leb rows r) (RowTooHigh Open)) counted refl a .1 in
-    let c = passed (refuse (leb writeLimit (x .«write_count»)) (WritesFull Open)) full refl b .1 in
-    let n = passed (refuse (eqb p 0) (SlotsFull Open)) [] refl c .0 in
-    rw e (taken-indexed S p (x .txid .0) (baseOf S x r) v (free-no-head S sized rests n) h))
-    (λ e. rw e h)
+write-indexed S x r v sized rests = answered (write S x r v .refusal)
+    (λ e. let free = none-applies (write S x r v .refusal) (writeLines S x r) (write-told S x r v) e .1 .1 .1 .1 .1 .1 .0 in
+    rw (write-accepted S x r v e)
+    (taken-indexed S (lowestFree (S .xmin)) (x .txid .0) (baseOf S x r) v (free-no-head S sized rests free) (indexed S rests)))
+    (λ n. rw (write-refused S x r v n) (indexed S rests))
 
 -- commit, where it isn't cut: T is a test of numbers that 18 fails
 pub commit-indexed : (S : Store) (x : Tx) (logged : Bool) (plan : Schedule) → Sized S → all (λ k. ltb k keyEnd) (S .key) ≡ true

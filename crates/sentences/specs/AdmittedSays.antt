@@ -7,6 +7,7 @@ use Prim.Native.Nat.{ℕ}
 use lib.ListN.{replicate}
 use lib.Dec.{eqb}
 use borrow.Author.Tests.{eqb-true, eqb-false, eq-eqb, ne-eqb}
+use Rattle.records.specs.Limits.{places}
 use Rattle.rules.specs.Lists.{memb, nonzeroFrom}
 use Rattle.rules.specs.Chains.{Walk, walk}
 use Rattle.rules.specs.Admitted.{finished}
@@ -39,6 +40,6 @@ pub walk-stops :
     ((walk (1 ∷ 4 ∷ []) nexts .ok ≡ true) × (marked (walk (1 ∷ 4 ∷ []) nexts) ≡ 1 ∷ 2 ∷ 3 ∷ 4 ∷ 5 ∷ []))
     × ((walk (2 ∷ 1 ∷ 4 ∷ []) nexts .ok ≡ false) × (marked (walk (2 ∷ 1 ∷ 4 ∷ []) nexts) ≡ 1 ∷ 2 ∷ 3 ∷ []))
     × ((walk (3 ∷ 6 ∷ 4 ∷ []) nexts .ok ≡ false) × (marked (walk (3 ∷ 6 ∷ 4 ∷ []) nexts) ≡ 3 ∷ 6 ∷ []))
-    × ((walk (257 ∷ 4 ∷ []) nexts .ok ≡ false) × (marked (walk (257 ∷ 4 ∷ []) nexts) ≡ []))
+    × ((walk (places ∷ 4 ∷ []) nexts .ok ≡ false) × (marked (walk (places ∷ 4 ∷ []) nexts) ≡ []))
 unfolding nexts computing
 walk-stops = ((refl, refl), (refl, refl), (refl, refl), (refl, refl))

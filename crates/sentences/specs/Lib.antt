@@ -12,8 +12,10 @@ pub mod Forged
 pub mod StepsSay
 pub mod FaultsSay
 pub mod FaultsUnheeded
--- "Numbers seen": the table, straight from the steps
+-- "Numbers seen": commit's table, straight from the steps; the other calls' tables
 pub mod RunSays
+pub mod FirstLine
+pub mod Refusals
 -- "Replay": its bytes; its lines; and a table of both, computed
 pub mod ScriptSays
 pub mod ReplaySays

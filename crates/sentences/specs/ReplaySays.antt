@@ -33,7 +33,9 @@ use Rattle.basic_laws.specs.Sound.{zeros, zeros-set}
 use Rattle.basic_laws.specs.LaidOut.{pad-length, take-pad}
 use Rattle.statements.specs.ReplayWords.{Bytes, worth, Decimal, IsThird, IsOutput, Third64, Outs64, txOf, Laid, Begins, KeyOrDash, Reads, Writes, LooksUp}
 use Rattle.statements.specs.ReplayWords.{Locks, Aborts, NoFaults, Commits, OneMore, Faults, Recovers}
-use Rattle.statements.specs.ReplayWords.{Refused, Does, Plays, AllOf, IsEmpty, IsZero, Starts, Replays}
+use Rattle.statements.specs.ReplayWords.{Refused, Does, Plays, Starts, Replays}
+use Rattle.sentences.specs.StoreSays.{fresh-store}
+use Rattle.sentences.specs.CallsSay.{zero-tx}
 use Rattle.sentences.specs.ScriptSays.{script-says}
 
 -- WHAT EACH LINE DOES
@@ -142,7 +144,7 @@ abort-line i d =
     record { number = refl; store = refl; tx = laid-says i (a .tx) d (a .store) (d .plan); faults = refl; third = refl }
 
 -- n places that are all z
-all-of : {A : Type 0} (n : ℕ) (z : A) → AllOf n z (replicate n z)
+all-of : {A : Type 0} (n : ℕ) (z : A) → (length (replicate n z) ≡ n) × ((j : ℕ) → getD (replicate n z) j z ≡ z)
 all-of n z = (length-replicate n z, same n)
   where
     same : (n : ℕ) (j : ℕ) → getD (replicate n z) j z ≡ z
@@ -277,55 +279,13 @@ lines-play d (l ∷ ls) = (turn l d .desk, turn l d .out, replayFrom (turn l d .
 
 -- THE START
 
-empty-says : IsEmpty fresh
-unfolding fresh emptyStore
-empty-says = record {
-  heads = all-of 64 0;
-  xmin = all-of 257 0;
-  xmax = all-of 257 0;
-  next = all-of 257 0;
-  key = all-of 257 0;
-  has = all-of 257 false;
-  locked = all-of 257 false;
-  owner = all-of 257 0;
-  postings = all-of 128 0;
-  count = refl;
-  stripes = all-of 16 0;
-  partitions = all-of 16 0;
-  stamps = all-of 16 0;
-  active = all-of 16 0;
-  clock = refl;
-  poisoned = refl;
-  doomed = refl;
-  bound = refl;
-}
-
-zero-says : IsZero zeroTx
-unfolding zeroTx onlyTxid
-zero-says = record {
-  txid = refl;
-  xmin = refl;
-  xmax = refl;
-  snapshot = all-of 16 0;
-  seen = refl;
-  writes = all-of 16 noWrite;
-  written = refl;
-  reads = all-of 32 noRead;
-  read = refl;
-  index = all-of 16 noIndexRead;
-  indexed = refl;
-  conflict = refl;
-  savepoints = all-of 4 0;
-  saved = refl;
-}
-
 -- "It starts from the empty store and zero transactions"
 pub start-says : Starts start
 unfolding start
 start-says = record {
-  store = empty-says;
+  store = fresh-store;
   places = all-of placeLimit zeroTx .0;
-  zero = λ i. rw (all-of placeLimit zeroTx .1 i) zero-says;
+  zero = λ i. rw (all-of placeLimit zeroTx .1 i) zero-tx;
   faults = no-faults;
 }
 

@@ -89,8 +89,7 @@ module _ (l : Line) {A : Type 0} where
   place-out w f e k =
       by (isNumber w && ltb (valueOf 0 w) placeLimit)
       (λ t. let d = and-true (isNumber w) (ltb (valueOf 0 w) placeLimit) t in
-      let h : valueOf 0 w < 16 = ltb-true _ _ (d .1) in
-      k (valueOf 0 w) (is-number w (d .0) .0, omega arith) (rw t at e))
+      k (valueOf 0 w) (is-number w (d .0) .0, ltb-true (valueOf 0 w) placeLimit (d .1)) (rw t at e))
       (λ t. inr (sym (rw t at e)))
 
   value-out : (w : Bytes) (f : Value → Line) → value w f ≡ l → ((v : Value) → KeyOr v w → f v ≡ l → A ⊎ (l ≡ lineBad)) → A ⊎ (l ≡ lineBad)

@@ -5,6 +5,7 @@ use mathlib.Core.List.{List, [], _∷_, _++_}
 use mathlib.Core.Logic.{_≢_, _⊎_}
 use Prim.Native.Nat.{ℕ, suc, _+_, _-_, _*_, _^_, _<_, _≤_}
 use lib.ListN.{length, getD}
+use Rattle.records.specs.Limits.{placeLimit}
 use Rattle.records.specs.Zero.{zeroTx, noFault}
 use Rattle.rules.specs.Lists.{memb}
 use Rattle.rules.specs.Types.{Store, Tx, Fault, Schedule, Value, Absent, Key, Cut, Uncut, After}
@@ -14,6 +15,8 @@ use Rattle.rules.specs.Calls.{begin, read, write, lookup, rowLock, abort}
 use Rattle.rules.specs.Recovery.{recover}
 use Rattle.rules.specs.Answer.{commit}
 use Rattle.rules.specs.Replay.{Line, lineB, lineR, lineW, lineL, lineK, lineA, lineC, lineF, lineV, lineBad, Third, num, dash, Out, Desk}
+use Rattle.statements.specs.StoreWords.{EmptyStore}
+use Rattle.statements.specs.CallWords.{OnlyTxid}
 
 -- BYTES: 9 is the tab, 10 the line feed, 45 the -, 48 to 57 are the digits, 65 to 90 the letters A to Z, 108 is l, 117 is u
 abbrev pub Bytes : Type 0
@@ -36,7 +39,7 @@ abbrev pub Number : ℕ → Bytes → Type 0
 Number n w = Decimal n w × (n < 2 ^ 32)
 
 abbrev pub Place : ℕ → Bytes → Type 0
-Place i w = Decimal i w × (i ≤ 15)
+Place i w = Decimal i w × (i < placeLimit)
 
 abbrev pub KeyOr : Value → Bytes → Type 0
 KeyOr Absent w = w ≡ 45 ∷ []
@@ -247,53 +250,11 @@ Plays d (l ∷ ls) os = (e : Desk) × (o : Out) × (rest : List Out) × (os ≡ 
 
 -- THE START
 
--- n places, all of them z
-abbrev pub AllOf : {A : Type 0} → ℕ → A → List A → Type 0
-AllOf n z l = (length l ≡ n) × ((j : ℕ) → getD l j z ≡ z)
-
--- "the empty store": no versions, postings, guards, stamps, active txids; "A 64-bit clock from 1"
-pub record IsEmpty (S : Store) : Type 0 where
-  pub heads : AllOf 64 0 (S .heads)
-  pub xmin : AllOf 257 0 (S .xmin)
-  pub xmax : AllOf 257 0 (S .xmax)
-  pub next : AllOf 257 0 (S .next)
-  pub key : AllOf 257 0 (S .key)
-  pub has : AllOf 257 false (S .has)
-  pub locked : AllOf 257 false (S .locked)
-  pub owner : AllOf 257 0 (S .owner)
-  pub postings : AllOf 128 0 (S .postings)
-  pub count : S .«posting_count» ≡ 0
-  pub stripes : AllOf 16 0 (S .«stripe_guards»)
-  pub partitions : AllOf 16 0 (S .«partition_guards»)
-  pub stamps : AllOf 16 0 (S .stamps)
-  pub active : AllOf 16 0 (S .active)
-  pub clock : S .clock ≡ 1
-  pub poisoned : S .poisoned ≡ false
-  pub doomed : S .doomed ≡ 0
-  pub bound : S .bound ≡ false
-
--- "zero transactions"
-pub record IsZero (x : Tx) : Type 0 where
-  pub txid : x .txid .0 ≡ 0
-  pub xmin : x .«snapshot_xmin» .0 ≡ 0
-  pub xmax : x .«snapshot_xmax» .0 ≡ 0
-  pub snapshot : AllOf 16 0 (x .snapshot)
-  pub seen : x .«snapshot_count» ≡ 0
-  pub writes : AllOf 16 (record { row = record { 0 = 0 }; base = record { 0 = 0 }; new = record { 0 = 0 } }) (x .writes)
-  pub written : x .«write_count» ≡ 0
-  pub reads : AllOf 32 (record { row = record { 0 = 0 }; ptr = record { 0 = 0 }; xmin = record { 0 = 0 } }) (x .reads)
-  pub read : x .«read_count» ≡ 0
-  pub index : AllOf 16 (record { stripe = 0; stamp = record { 0 = 0 } }) (x .«index_reads»)
-  pub indexed : x .«index_read_count» ≡ 0
-  pub conflict : x .«index_conflict» ≡ false
-  pub savepoints : AllOf 4 0 (x .savepoints)
-  pub saved : x .«savepoint_count» ≡ 0
-
 -- "It starts from the empty store and zero transactions"
 pub record Starts (d : Desk) : Type 0 where
-  pub store : IsEmpty (d .store)
-  pub places : length (d .txs) ≡ 16
-  pub zero : (i : ℕ) → IsZero (txOf d i)
+  pub store : EmptyStore false (d .store)
+  pub places : length (d .txs) ≡ placeLimit
+  pub zero : (i : ℕ) → OnlyTxid 0 (txOf d i)
   pub faults : NoFaults (d .plan)
 
 -- A WHOLE REPLAY: the script's lines, played from the start, and their answers written from line 1 on

@@ -3,12 +3,14 @@ use mathlib.Core.Path.{_≡_}
 use mathlib.Core.Bool.{Bool, true, false, cond}
 use mathlib.Core.List.{List, [], _∷_, _++_}
 use mathlib.Core.Logic.{_↔_, _⊎_}
-use Prim.Native.Nat.{ℕ, _<_}
-use lib.ListN.{length, getD}
-use Rattle.rules.specs.Types.{Store, Tx, Write, Record, Refusal, Events, Answer}
+use Prim.Native.Nat.{ℕ, _≤_}
+use lib.ListN.{length}
+use Rattle.records.specs.Limits.{writeLimit}
+use Rattle.rules.specs.Types.{Store, Tx, Record, Refusal, Events, Answer}
 use Rattle.rules.specs.Transaction.{finals}
 use Rattle.rules.specs.Numbers.{numberOf}
 use Rattle.rules.specs.Puts.{Put, applyAll}
+use Rattle.statements.specs.CallWords.{ZeroRecord, Names}
 
 -- none of these tests holds
 abbrev pub None : List Bool → Type 0
@@ -44,19 +46,10 @@ abbrev pub Reason : ℕ → List Bool → List Row → Row → Type 0
 Reason n before [] d = (n ≡ d .number) × None before
 Reason n before (r ∷ rs) d = ((n ≡ r .number) × None before × (r .when ≡ true)) ⊎ Reason n (before ++ r .when ∷ []) rs d
 
--- "The record is zero unless 0": then it names the transaction and its final writes, in their order, with zero in the places after them
-abbrev pub zeroWrite : Write
-zeroWrite = record { row = record { 0 = 0 }; base = record { 0 = 0 }; new = record { 0 = 0 } }
-
-pub record Names (t : ℕ) (ws : List Write) (r : Record) : Type 0 where
-  pub txid : r .txid .0 ≡ t
-  pub count : r .count ≡ length ws
-  pub places : length (r .writes) ≡ 16
-  pub writes : (i : ℕ) → i < 16 → getD (r .writes) i zeroWrite ≡ getD ws i zeroWrite
-
+-- "The record is zero unless 0": then it names the transaction and its final writes (a fit transaction has no more of them than there are places)
 pub record Recorded (n : ℕ) (x : Tx) (r : Record) : Type 0 where
-  pub committed : n ≡ 0 → Names (x .txid .0) (finals x) r
-  pub refused : (n ≡ 0 → ⊥) → Names 0 [] r
+  pub committed : n ≡ 0 → length (finals x) ≤ writeLimit → Names (x .txid .0) (finals x) r
+  pub refused : (n ≡ 0 → ⊥) → ZeroRecord r
 
 -- an answer is what a row says: its refusal, fate inside; "The record is zero unless 0"; store and transaction; the store is the one at entry, S, with
 -- the row's stores made one after the other, so no guard, stamp or posting is otherwise than they leave it; their number; the events

@@ -38,7 +38,7 @@ use Rattle.sentences.specs.ReadsSay.{in-snapshot, meant-none, first-one}
 use Rattle.admitted_laws.specs.Repairable.{marks}
 use Rattle.admitted_laws.specs.Resting.{Rests, rests}
 use Rattle.recovery_laws.specs.Start.{tails}
-use Rattle.call_laws.specs.Refusals.{begin-accepted, write-accepted}
+use Rattle.sentences.specs.Refusals.{begin-accepted, write-accepted}
 use Rattle.call_laws.specs.Passed.{begin-passed}
 use Rattle.call_laws.specs.ReadLaws.{visibleAt, first-of, none-of, first-none, mem-mid}
 

@@ -21,7 +21,7 @@ use Rattle.rules.specs.Calls.{admits, begun, begin, readPtr, recordRead, read, 
 use Rattle.rules.specs.Calls.{recordReads, recordStamp, matching, asRow, lookup, lockedByAnother, rowLock, abort}
 use Rattle.statements.specs.OtherNumbers.{firstLines, beginLines, readLines, writeLines, lookupLines, rowLockLines}
 use Rattle.statements.specs.Table.{line, Told}
-use Rattle.call_laws.specs.FirstLine.{triesOf, told, refusal-is, refused, accepted}
+use Rattle.sentences.specs.FirstLine.{triesOf, told, refusal-is, refused, accepted}
 
 -- what an accepted lookup has added to the transaction
 abbrev pub looked : Store → Tx → ℕ → Tx
