@@ -28,7 +28,7 @@ use Rattle.statements.specs.StoreWords.{Packed}
 use Rattle.statements.specs.CallWords.{Unfinished, Reached, head, along, HeadPosting, Repaired}
 use Rattle.admitted_laws.specs.Repairable.{Mends, mends}
 use Rattle.recovery_laws.specs.ArraysKept.{keep-on, keep-off, blanks, clear-other, clear-here}
-use Rattle.recovery_laws.specs.Recovering.{hs, N, seen, heads-long, chains, chained, sized, found-same}
+use Rattle.recovery_laws.specs.Recovering.{hs, N, seen, heads-long, chains, chained, found-same}
 
 -- '"Unfinished" means active or doomed', as the definition's test says it
 pub unfinished-says : (S : Store) (t : ℕ) → (finished (S .active) (S .doomed) t ≡ false) ↔ Unfinished S t
@@ -107,7 +107,14 @@ module _ (key : List ℕ) (has : List Bool) where
       (or-right (eqb c (posting (getD key h 0) r)) (memb c (headPostings key has (suc r) hs)) m))
       (λ k. rw k m)
 
-module _ (S : Store) (L : ℕ → List ℕ) (z : Sized S) (M : Mends S L) where
+module _ (S : Store) (z : Sized S) (h : repairable S ≡ true) where
+  -- the chains of the rows
+  abbrev L : ℕ → List ℕ
+  L = mends S z h .0
+
+  abbrev M : Mends S L
+  M = mends S z h .1
+
   abbrev fin : ℕ → Bool
   fin = finished (S .active) (S .doomed)
 
@@ -142,11 +149,12 @@ module _ (S : Store) (L : ℕ → List ℕ) (z : Sized S) (M : Mends S L) where
   at : (r : ℕ) → getD heads r 0 ≡ trimHead fin (S .xmin) (S .next) (getD (S .heads) r 0)
   at r = List·getD-map (trimHead fin (S .xmin) (S .next)) (S .heads) r 0
 
-  gone : (r : ℕ) → getD (S .heads) r 0 ≢ 0 → fin (getD (S .xmin) (getD (S .heads) r 0) 0) ≡ false → getD heads r 0 ≡ getD (S .next) (getD (S .heads) r 0) 0
-  gone r n e = at r ∙ rw (ne-eqb (getD (S .heads) r 0) 0 n, e)
+  first-removed : (r : ℕ) → getD (S .heads) r 0 ≢ 0 → fin (getD (S .xmin) (getD (S .heads) r 0) 0) ≡ false
+      → getD heads r 0 ≡ getD (S .next) (getD (S .heads) r 0) 0
+  first-removed r n e = at r ∙ rw (ne-eqb (getD (S .heads) r 0) 0 n, e)
 
-  same-head : (r : ℕ) → fin (getD (S .xmin) (getD (S .heads) r 0) 0) ≡ true → getD heads r 0 ≡ getD (S .heads) r 0
-  same-head r e = at r ∙ by (eqb (getD (S .heads) r 0) 0)
+  head-stays : (r : ℕ) → fin (getD (S .xmin) (getD (S .heads) r 0) 0) ≡ true → getD heads r 0 ≡ getD (S .heads) r 0
+  head-stays r e = at r ∙ by (eqb (getD (S .heads) r 0) 0)
       (λ k. rw k (sym (eqb-true (getD (S .heads) r 0) 0 k)))
       (λ k. rw (k, e))
 
@@ -183,12 +191,12 @@ module _ (S : Store) (L : ℕ → List ℕ) (z : Sized S) (M : Mends S L) where
         λ m. h c .1 (posted-at key′ has′ 0 heads c (rw (found-same S L z M) m)),
       ))
 
-  repairs : Repaired S (recovered S)
+  -- "Recovery takes any repairable store: it removes an unfinished first version, .."
+  pub recovery-repairs : Repaired S (recovered S)
   unfolding recovered
-  repairs = record {
-    sized = sized S L z M;
-    removed = λ r lt n u. gone r n (unfinished-says S _ .1 u);
-    stays = λ r lt n. same-head r (finished-says S _ n);
+  recovery-repairs = record {
+    removed = λ r lt n u. first-removed r n (unfinished-says S _ .1 u);
+    stays = λ r lt n. head-stays r (finished-says S _ n);
     xmin = λ p q. keep-on 0 marks (S .xmin) p (reached-on p q);
     next = λ p q. keep-on 0 marks (S .next) p (reached-on p q);
     key = λ p q. keep-on 0 marks (S .key) p (reached-on p q);
@@ -221,10 +229,6 @@ module _ (S : Store) (L : ℕ → List ℕ) (z : Sized S) (M : Mends S L) where
     stamps = refl;
     bound = refl;
   }
-
--- "Recovery takes any repairable store: it removes an unfinished first version, .."
-pub recovery-repairs : (S : Store) → Sized S → repairable S ≡ true → Repaired S (recovered S)
-recovery-repairs S z h = let M = mends S z h in repairs S (M .0) z (M .1)
 
 -- the call: 20 where the store is not repairable, which then is as it was
 pub recover-says : (S : Store) → Sized S

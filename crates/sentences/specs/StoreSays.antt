@@ -28,7 +28,7 @@ use Rattle.basic_laws.specs.Rising.{rising-less, rising-from, mem-into, rising-
 use Rattle.basic_laws.specs.LaidOut.{pad-length}
 use Rattle.basic_laws.specs.Placed.{getD-any, rising-at, at-rising, packed-of, packed-rising, packed-members, before-first}
 use Rattle.statements.specs.StoreWords.{Sets, Packed, Blank, storedKey, isPresent, Part, Heads, Xmin, Xmax, Next, Values, RowLocks, Postings, StripeGuards}
-use Rattle.statements.specs.StoreWords.{PartitionGuards, Stamps, Active, Clock, Poisoned, Doomed, Bound, Kept, changedBy, StoreKinds, Taken}
+use Rattle.statements.specs.StoreWords.{PartitionGuards, Stamps, Active, Clock, Poisoned, Doomed, Bound, Kept, changedBy, NothingElse, StoreKinds, Taken}
 use Rattle.statements.specs.StoreWords.{PaperNumbers, EmptyStore, PostingPair, Remainder, FirstPlaces, BeforeZero, RisingOf, Lowest}
 
 -- one place set
@@ -52,22 +52,22 @@ not-two : (k a b : ℕ) → memb k (a ∷ b ∷ []) ≡ false → (eqb k a ≡ f
 not-two k a b n = let h = or-false (eqb k a) (memb k (b ∷ [])) n in (h .0, not-one k b (h .1))
 
 -- no other part changes
-kept : (p : Put) (S : Store) (part : Part) → memb (p .kind) (changedBy part) ≡ false → Kept S (apply p S) part
-kept p S Heads n = rw (not-one (p .kind) kHead n)
-kept p S Xmin n = let h = not-two (p .kind) kFree kXmin n in rw (h .0, h .1)
-kept p S Xmax n = let h = not-two (p .kind) kFree kXmax n in rw (h .0, h .1)
-kept p S Next n = let h = not-two (p .kind) kFree kNext n in rw (h .0, h .1)
-kept p S Values n = let h = not-two (p .kind) kFree kKey n in (rw (h .0, h .1), rw (h .0, h .1))
-kept p S RowLocks n = let h = not-two (p .kind) kFree kLock n in (rw (h .0, h .1), rw (h .0, h .1))
-kept p S Postings n = let h = not-two (p .kind) kInsert kRemove n in (rw (h .0, h .1), rw (h .0, h .1))
-kept p S StripeGuards n = rw (not-one (p .kind) kStripe n)
-kept p S PartitionGuards n = rw (not-one (p .kind) kPartition n)
-kept p S Stamps n = rw (not-one (p .kind) kStamp n)
-kept p S Active n = let h = not-two (p .kind) kDrop kEnter n in rw (h .0, h .1)
-kept p S Clock n = rw (not-one (p .kind) kClock n)
-kept p S Poisoned n = let h = not-two (p .kind) kPoison kDoom n in rw (h .0, h .1)
-kept p S Doomed n = rw (not-one (p .kind) kDoom n)
-kept p S Bound n = refl
+pub nothing-else : (S : Store) → NothingElse S
+nothing-else S p Heads n = rw (not-one (p .kind) kHead n)
+nothing-else S p Xmin n = let h = not-two (p .kind) kFree kXmin n in rw (h .0, h .1)
+nothing-else S p Xmax n = let h = not-two (p .kind) kFree kXmax n in rw (h .0, h .1)
+nothing-else S p Next n = let h = not-two (p .kind) kFree kNext n in rw (h .0, h .1)
+nothing-else S p Values n = let h = not-two (p .kind) kFree kKey n in (rw (h .0, h .1), rw (h .0, h .1))
+nothing-else S p RowLocks n = let h = not-two (p .kind) kFree kLock n in (rw (h .0, h .1), rw (h .0, h .1))
+nothing-else S p Postings n = let h = not-two (p .kind) kInsert kRemove n in (rw (h .0, h .1), rw (h .0, h .1))
+nothing-else S p StripeGuards n = rw (not-one (p .kind) kStripe n)
+nothing-else S p PartitionGuards n = rw (not-one (p .kind) kPartition n)
+nothing-else S p Stamps n = rw (not-one (p .kind) kStamp n)
+nothing-else S p Active n = let h = not-two (p .kind) kDrop kEnter n in rw (h .0, h .1)
+nothing-else S p Clock n = rw (not-one (p .kind) kClock n)
+nothing-else S p Poisoned n = let h = not-two (p .kind) kPoison kDoom n in rw (h .0, h .1)
+nothing-else S p Doomed n = rw (not-one (p .kind) kDoom n)
+nothing-else S p Bound n = refl
 
 -- one number more in a rising list, and one less, laid out again
 module _ (l : List ℕ) (lo : ℕ) (In : ℕ → Type 0) (up : rising lo l ≡ true) (has : (c : ℕ) → In c ↔ (memb c l ≡ true)) where
@@ -154,7 +154,6 @@ module _ (S : Store) where
   -- "A store is one guard, posting, xmax, head, slot, active-list, stamp or poison change."
   pub store-changes : StoreKinds S
   store-changes = record {
-    else = λ p part n. kept p S part n;
     stripe = λ i t. sets-one (S .«stripe_guards») i t;
     partition = λ i t. sets-one (S .«partition_guards») i t;
     xmax = λ p t. sets-one (S .xmax) p t;
@@ -175,10 +174,10 @@ module _ (S : Store) where
     freeOwner = λ p. sets-one (S .owner) p 0;
     insert = λ c In P lt. inserted c In P lt;
     remove = λ c In P le. removed c In P le;
-    room = has-room;
+    postingRoom = has-room;
     drop = λ t n In P some le. dropped n In P some t le;
     enter = λ t n In P some lt pos top. entered n In P some t lt pos top;
-    length = has-places;
+    activeRoom = has-places;
     clock = λ t. refl;
     poison = refl;
     doomPoisons = λ t. refl;

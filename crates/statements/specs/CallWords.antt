@@ -10,7 +10,6 @@ use Rattle.records.specs.Limits.{rows, stripes, partitions, activeLimit, writeL
 use Rattle.rules.specs.Lists.{any, memb, without}
 use Rattle.rules.specs.Types.{Store, Tx, Write, ReadRecord, IndexRead, Value, Absent, Record, Events, Reply, Seen, Written, Found}
 use Rattle.rules.specs.Store.{activeTxids}
-use Rattle.statements.specs.Sized.{Sized}
 use Rattle.statements.specs.StoreWords.{Packed, Blank, SameSlot, Part, Active, Clock, RowLocks, Kept, Lowest, Taken}
 use Rattle.statements.specs.ReadWords.{VisibleAt, NoneIn, FirstIn, LastOf, itsWrites, ofRow}
 
@@ -286,9 +285,8 @@ HeadPosting S c =
 abbrev pub AllZero : ℕ → List ℕ → Type 0
 AllZero n l = (length l ≡ n) × ((i : ℕ) → getD l i 0 ≡ 0)
 
--- what recovery makes of a repairable store S, row by row and slot by slot
+-- what recovery makes of a repairable store S, row by row and slot by slot (the arrays' lengths are in `Recovered`)
 pub record Repaired (S D : Store) : Type 0 where
-  pub sized : Sized D
   -- "it removes an unfinished first version", and no other
   pub removed : (r : ℕ) → r < rows → getD (S .heads) r 0 ≢ 0 → Unfinished S (getD (S .xmin) (getD (S .heads) r 0) 0)
       → getD (D .heads) r 0 ≡ getD (S .next) (getD (S .heads) r 0) 0

@@ -117,9 +117,12 @@ changedBy Poisoned = kPoison ∷ kDoom ∷ []
 changedBy Doomed = kDoom ∷ []
 changedBy Bound = []
 
--- and what each kind puts where: "guard (0 or the holder's txid)", "xmax", "head", "stamp"; the changes of begin, write and row lock
+-- and nothing else changes
+abbrev pub NothingElse : Store → Type 0
+NothingElse S = (p : Put) (part : Part) → memb (p .kind) (changedBy part) ≡ false → Kept S (apply p S) part
+
+-- what each kind puts where: "guard (0 or the holder's txid)", "xmax", "head", "stamp"; the changes of begin, write and row lock
 pub record StoreKinds (S : Store) : Type 1 where
-  pub else : (p : Put) (part : Part) → memb (p .kind) (changedBy part) ≡ false → Kept S (apply p S) part
   pub stripe : (i t : ℕ) → Sets (S .«stripe_guards») (apply (putStripe i t) S .«stripe_guards») i t
   pub partition : (i t : ℕ) → Sets (S .«partition_guards») (apply (putPartition i t) S .«partition_guards») i t
   pub xmax : (p t : ℕ) → Sets (S .xmax) (apply (putXmax p t) S .xmax) p t
@@ -144,13 +147,13 @@ pub record StoreKinds (S : Store) : Type 1 where
       → let T = apply (putInsert c) S in Packed (T .postings) (T .«posting_count») (λ d. (d ≡ c) ⊎ In d)
   pub remove : (c : ℕ) (In : ℕ → Type 0) → Packed (S .postings) (S .«posting_count») In → S .«posting_count» ≤ postingLimit
       → let T = apply (putRemove c) S in Packed (T .postings) (T .«posting_count») (λ d. (d ≢ c) × In d)
-  pub room : (p : Put) → memb (p .kind) (changedBy Postings) ≡ true → length (apply p S .postings) ≡ postingLimit
+  pub postingRoom : (p : Put) → memb (p .kind) (changedBy Postings) ≡ true → length (apply p S .postings) ≡ postingLimit
   -- a txid less, a txid more (above the others) in the active list, which is n txids, rising, zero after them
   pub drop : (t n : ℕ) (In : ℕ → Type 0) → Packed (S .active) n In → (In 0 → ⊥) → n ≤ activeLimit
       → (m : ℕ) × Packed (apply (putDrop t) S .active) m (λ d. (d ≢ t) × In d)
   pub enter : (t n : ℕ) (In : ℕ → Type 0) → Packed (S .active) n In → (In 0 → ⊥) → n < activeLimit → 0 < t → ((d : ℕ) → In d → d < t)
       → Packed (apply (putEnter t) S .active) (suc n) (λ d. (d ≡ t) ⊎ In d)
-  pub length : (p : Put) → memb (p .kind) (changedBy Active) ≡ true → length (apply p S .active) ≡ activeLimit
+  pub activeRoom : (p : Put) → memb (p .kind) (changedBy Active) ≡ true → length (apply p S .active) ≡ activeLimit
   pub clock : (t : ℕ) → apply (putClock t) S .clock ≡ t
   -- poison; "A poison store, doom included"
   pub poison : apply putPoison S .poisoned ≡ true
