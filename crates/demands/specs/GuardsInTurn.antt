@@ -10,8 +10,8 @@ use lib.Seq.{take-all, getD-take, getD-drop}
 use lib.Dec.{eqb, ltb, leb}
 use borrow.Author.Tests.{eq-eqb, ltb-true, ltb-false, le-leb}
 use Rattle.records.specs.Limits.{stripes, partitions}
-use Rattle.rules.specs.Lists.{all, allZero, flat, nonzeroFrom, memb}
-use Rattle.rules.specs.Types.{Store, Tx, Write, ReadRecord, IndexRead, Schedule, Uncut, After, Fate, Refusal, Key}
+use Rattle.rules.specs.Lists.{all, allZero, memb}
+use Rattle.rules.specs.Types.{Store, Tx, Write, ReadRecord, IndexRead, Schedule, Uncut, After, Fate, Refusal}
 use Rattle.rules.specs.Transaction.{writesOf, readsOf, indexReadsOf, finals}
 use Rattle.rules.specs.Fit.{stripesApart}
 use Rattle.rules.specs.Numbers.{numberOf}
@@ -20,12 +20,9 @@ use Rattle.rules.specs.Changes.{changes, destinations, guardedStripes, guardedP
 use Rattle.rules.specs.Changes.{publication, recycling, stamping}
 use Rattle.rules.specs.Commit.{End, count, runOf}
 use Rattle.rules.specs.Answer.{eventsOf, uncut, cutOff, commit}
-use Rattle.rules.specs.Replay.{Line, lineB, lineR, lineW, lineL, lineC, start}
-use Rattle.rules.specs.Computing.{computing}
 use Rattle.statements.specs.Sized.{Sized}
 use Rattle.statements.specs.Words.{Some, Admitted}
 use Rattle.statements.specs.StepWords.{PassedTests, Rises, GuardedStripe, GuardedPartition, InOrder, GuardsOf}
-use Rattle.sentences.specs.Mornings.{morning}
 use Rattle.sentences.specs.StepsSay.{guarded-stripes-say, guarded-partitions-say}
 use Rattle.basic_laws.specs.Cases.{by, clash, or-true, or-left, or-right, and-true, and-both}
 use Rattle.basic_laws.specs.Members.{mem-at}
@@ -529,42 +526,3 @@ module _ (S : Store) (x : Tx) (logged : Bool) (plan : Schedule) (z : Sized S) (o
           → length ss + length ps + length M + length ps + length ss ≡ commit S x logged plan Uncut .stores
       long ss ps M W m w e n =
           sym (stores-are ∙ ap length e ∙ simp (length-append, length-map) (omega (arith, ap length n)))
-
--- A MORNING
-
--- keys 35 in row 3 and 7 in row 20 committed; then txid 2 looks for key 40, reads row 20 and writes key 36 to row 3
-unfoldable pub looked : List Line
-looked =
-    lineB 0 ∷ lineW 0 3 (Key 35) ∷ lineW 0 20 (Key 7) ∷ lineC 0 false Uncut
-    ∷ lineB 0 ∷ lineL 0 40 ∷ lineR 0 20 ∷ lineW 0 3 (Key 36) ∷ []
-
--- the guards that are held after n stores of its commit: stripes, partitions
-unfoldable pub heldAfter : ℕ → List (List ℕ)
-heldAfter n =
-    let T = morning start (looked ++ lineC 0 false (After n) ∷ []) .desk .store in
-    nonzeroFrom 0 (T .«stripe_guards») ∷ nonzeroFrom 0 (T .«partition_guards») ∷ []
-
--- stripes 3 and 4 of the changed keys and 8 of the index read, partition 3 of the written row and 4 of the read one; 17 stores in all
-pub guards-shown : flat heldAfter (0 ∷ 1 ∷ 2 ∷ 3 ∷ 4 ∷ 5 ∷ 12 ∷ 13 ∷ 14 ∷ 15 ∷ 16 ∷ 17 ∷ [])
-    ≡ [] ∷ []
-    ∷ (3 ∷ []) ∷ []
-    ∷ (3 ∷ 4 ∷ []) ∷ []
-    ∷ (3 ∷ 4 ∷ 8 ∷ []) ∷ []
-    ∷ (3 ∷ 4 ∷ 8 ∷ []) ∷ (3 ∷ [])
-    ∷ (3 ∷ 4 ∷ 8 ∷ []) ∷ (3 ∷ 4 ∷ [])
-    ∷ (3 ∷ 4 ∷ 8 ∷ []) ∷ (3 ∷ 4 ∷ [])
-    ∷ (3 ∷ 4 ∷ 8 ∷ []) ∷ (4 ∷ [])
-    ∷ (3 ∷ 4 ∷ 8 ∷ []) ∷ []
-    ∷ (4 ∷ 8 ∷ []) ∷ []
-    ∷ (8 ∷ []) ∷ []
-    ∷ [] ∷ []
-    ∷ []
-unfolding looked heldAfter morning computing
-guards-shown = refl
-
--- the stamps of stripes 3, 4, 7 and 8 afterwards, and cut before each of the two stamps
-pub stamps-shown : map (λ c. map (λ i. getD (morning start (looked ++ lineC 0 false c ∷ []) .desk .store .stamps) i 0) (3 ∷ 4 ∷ 7 ∷ 8 ∷ []))
-    (Uncut ∷ After 10 ∷ After 11 ∷ [])
-    ≡ (2 ∷ 2 ∷ 1 ∷ 0 ∷ []) ∷ (1 ∷ 0 ∷ 1 ∷ 0 ∷ []) ∷ (2 ∷ 0 ∷ 1 ∷ 0 ∷ []) ∷ []
-unfolding looked morning computing
-stamps-shown = refl

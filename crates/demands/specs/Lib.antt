@@ -14,3 +14,4 @@ pub mod Exhibits
 pub mod StampsAfter
 -- the guards after each store of a commit
 pub mod GuardsInTurn
+pub mod GuardedMorning

@@ -2,6 +2,7 @@
 -- that says something else fails here. The words are in the crate `statements`. What only a whole run shows stands in the crates of laws above.
 -- "Store and transaction"; what one store changes
 pub mod StoreSays
+pub mod PaperNumbers
 -- "Admitted stores"
 pub mod AdmittedSays
 -- "Other calls" and recovery; what a transaction sees and reads

@@ -1,4 +1,4 @@
--- "Replay", computed: a script with every form and many lines of no form, each beside its answer, from bytes to bytes at the real limits.
+-- "Replay", computed: a script with every form and many lines of no form, each beside its answer, from bytes to bytes at the paper's numbers.
 use mathlib.Core.Path.{_≡_, refl}
 use mathlib.Core.List.{List, [], _∷_, _++_}
 use Rattle.rules.specs.Lists.{flat}

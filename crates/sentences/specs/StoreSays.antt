@@ -29,7 +29,7 @@ use Rattle.basic_laws.specs.LaidOut.{pad-length}
 use Rattle.basic_laws.specs.Placed.{getD-any, rising-at, at-rising, packed-of, packed-rising, packed-members, before-first}
 use Rattle.statements.specs.StoreWords.{Sets, Packed, Blank, storedKey, isPresent, Part, Heads, Xmin, Xmax, Next, Values, RowLocks, Postings, StripeGuards}
 use Rattle.statements.specs.StoreWords.{PartitionGuards, Stamps, Active, Clock, Poisoned, Doomed, Bound, Kept, changedBy, NothingElse, StoreKinds, Taken}
-use Rattle.statements.specs.StoreWords.{PaperNumbers, EmptyStore, PostingPair, Remainder, FirstPlaces, BeforeZero, RisingOf, Lowest}
+use Rattle.statements.specs.StoreWords.{EmptyStore, PostingPair, Remainder, FirstPlaces, BeforeZero, RisingOf, Lowest}
 
 -- one place set
 module _ {A : Type 0} where
@@ -304,26 +304,6 @@ none-free xmin e p pos lt =
 
 -- THE PAPER'S NUMBERS
 
--- "64 row ids (0 to 63)", "256 slots, 1 to 256", ..
-pub paper-numbers : PaperNumbers
-paper-numbers = record {
-  rowIds = refl;
-  lastSlot = refl;
-  slotPlaces = refl;
-  postings = refl;
-  stripesAre = refl;
-  partitionsAre = refl;
-  actives = refl;
-  writes = refl;
-  reads = refl;
-  indexReads = refl;
-  savepoints = refl;
-  steps = refl;
-  keys = refl;
-  largest = refl;
-  placesOfReplay = refl;
-}
-
 -- the kinds of stores are different numbers
 pub kinds-differ : rising 1 (kStripe ∷ kPartition ∷ kInsert ∷ kRemove ∷ kXmax ∷ kHead ∷ kFree ∷ kDrop ∷ kStamp ∷ kPoison ∷ kDoom ∷ kEnter ∷ kClock
     ∷ kXmin ∷ kNext ∷ kKey ∷ kLock ∷ []) ≡ true
@@ -335,12 +315,6 @@ stripe-says k = record { below = omega (arith, stripes-some); times = k / stripe
 
 pub partition-says : (r : ℕ) → Remainder r partitions (partitionOf r)
 partition-says r = record { below = omega arith; times = r / partitions; whole = omega arith }
-
-pub stripes-told : map stripeOf (0 ∷ 15 ∷ 16 ∷ 35 ∷ 51 ∷ 4294967295 ∷ []) ≡ 0 ∷ 15 ∷ 0 ∷ 3 ∷ 3 ∷ 15 ∷ []
-stripes-told = refl
-
-pub partitions-told : map partitionOf (0 ∷ 15 ∷ 16 ∷ 35 ∷ 63 ∷ []) ≡ 0 ∷ 15 ∷ 0 ∷ 3 ∷ 15 ∷ []
-partitions-told = refl
 
 -- "A posting is (key, row)", and every number is one
 pub posting-says : (k r : ℕ) → r < rows → PostingPair k r (posting k r)
