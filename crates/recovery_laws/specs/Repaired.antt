@@ -1,14 +1,14 @@
 -- Recovery in words, row by row and slot by slot: what it removes, clears and frees, and that everything else stays.
 use mathlib.Core.Path.{_≡_, refl, sym, _∙_}
-use mathlib.Core.Bool.{Bool, true, false, not, _&&_}
+use mathlib.Core.Bool.{Bool, true, false}
 use mathlib.Core.List.{List, [], _∷_}
-use mathlib.Core.Logic.{_≢_, _⊎_, inl, inr, ⊎-elim, _↔_}
+use mathlib.Core.Logic.{_≢_, inr, _↔_}
 use Prim.Native.Nat.{ℕ, zero, suc, _+_, _<_}
 use native.Mathlib.Omega.{arith}
 use lib.ListN.{length, getD, set, length-replicate, List·getD-map}
 use lib.Seq.{getD-set-other}
 use lib.Dec.{eqb}
-use borrow.Author.Tests.{eqb-true, eqb-false, eq-eqb, ne-eqb}
+use borrow.Author.Tests.{eqb-true, eq-eqb, ne-eqb}
 use Rattle.records.specs.Limits.{rows, places, postingLimit, stripes, partitions, activeLimit}
 use Rattle.records.specs.Relations.{rows-posted}
 use Rattle.rules.specs.Lists.{memb, keep, pad}
@@ -25,33 +25,15 @@ use Rattle.basic_laws.specs.Chain.{IsChain, chain-head, chain-below}
 use Rattle.basic_laws.specs.Placed.{packed-of}
 use Rattle.statements.specs.Sized.{Sized}
 use Rattle.statements.specs.StoreWords.{Packed}
-use Rattle.statements.specs.CallWords.{Unfinished, Reached, head, along, HeadPosting, Repaired}
+use Rattle.statements.specs.CallWords.{UnfinishedIn, Reached, head, along, HeadPosting, Repaired}
+use Rattle.sentences.specs.AdmittedSays.{finished-says}
 use Rattle.admitted_laws.specs.Repairable.{Mends, mends}
 use Rattle.recovery_laws.specs.ArraysKept.{keep-on, keep-off, blanks, clear-other, clear-here}
 use Rattle.recovery_laws.specs.Recovering.{hs, N, seen, heads-long, chains, chained, found-same}
 
--- '"Unfinished" means active or doomed', as the definition's test says it
-pub unfinished-says : (S : Store) (t : ℕ) → (finished (S .active) (S .doomed) t ≡ false) ↔ Unfinished S t
-unfolding finished
-unfinished-says S t = (
-  λ n. by (eqb t 0)
-      (λ e. clash {b = true} refl (rw e at n))
-      (λ e. (
-        eqb-false t 0 e,
-        by (memb t (S .active))
-            (λ m. inl m)
-            (λ m. by (eqb t (S .doomed)) (λ d. inr (eqb-true t (S .doomed) d)) (λ d. clash {b = true} refl (rw (e, m, d) at n))),
-      )),
-  λ u. rw (ne-eqb t 0 (u .0)) (⊎-elim (λ m. rw m) (λ d. rw (eq-eqb t (S .doomed) d) (no (memb t (S .active)))) (u .1)),
-)
-  where
-    no : (b : Bool) → (not b && false) ≡ false
-    no true = refl
-    no false = refl
-
--- and a txid that isn't is finished
-finished-says : (S : Store) (t : ℕ) → (Unfinished S t → ⊥) → finished (S .active) (S .doomed) t ≡ true
-finished-says S t n = by (finished (S .active) (S .doomed) t) (λ e. e) (λ e. absurd (n (unfinished-says S t .0 e)))
+-- a txid that isn't unfinished is finished
+else-finished : (S : Store) (t : ℕ) → (UnfinishedIn S t → ⊥) → finished (S .active) (S .doomed) t ≡ true
+else-finished S t n = by (finished (S .active) (S .doomed) t) (λ e. e) (λ e. absurd (n (finished-says (S .active) (S .doomed) t .0 e)))
 
 -- a chain has the next of each of its slots
 chain-next : (ns : List ℕ) (h : ℕ) (l : List ℕ) (p : ℕ) → IsChain ns h l → memb p l ≡ true → getD ns p 0 ≢ 0 → memb (getD ns p 0) l ≡ true
@@ -168,11 +150,11 @@ module _ (S : Store) (z : Sized S) (h : repairable S ≡ true) where
       omega (arith, chain-below (S .next) (getD heads (g .0) 0) (N S L z M (g .0)) p (chains S L z M .chain (g .0) (g .1)) (g .2) .1, z .next, z .xmax)
 
   -- an xmax that is no head's, or finished, stays
-  xmax-same : (p : ℕ) → (((r : ℕ) × (r < rows) × (getD heads r 0 ≡ p)) → Unfinished S (getD (S .xmax) p 0) → ⊥)
+  xmax-same : (p : ℕ) → (((r : ℕ) × (r < rows) × (getD heads r 0 ≡ p)) → UnfinishedIn S (getD (S .xmax) p 0) → ⊥)
       → getD (clear fin heads (S .xmax)) p 0 ≡ getD (S .xmax) p 0
   xmax-same p n = by (memb p heads)
       (λ m. let k = mem-at heads p m in
-      clear-kept fin heads (S .xmax) p (finished-says S (getD (S .xmax) p 0) (n (k .0, omega (arith, k .1, long), k .2))))
+      clear-kept fin heads (S .xmax) p (else-finished S (getD (S .xmax) p 0) (n (k .0, omega (arith, k .1, long), k .2))))
       (λ m. clear-other fin heads (S .xmax) p m)
 
   -- the postings, packed
@@ -195,15 +177,15 @@ module _ (S : Store) (z : Sized S) (h : repairable S ≡ true) where
   pub recovery-repairs : Repaired S (recovered S)
   unfolding recovered
   recovery-repairs = record {
-    removed = λ r lt n u. first-removed r n (unfinished-says S _ .1 u);
-    stays = λ r lt n. head-stays r (finished-says S _ n);
+    removed = λ r lt n u. first-removed r n (finished-says (S .active) (S .doomed) _ .1 u);
+    stays = λ r lt n. head-stays r (else-finished S _ n);
     xmin = λ p q. keep-on 0 marks (S .xmin) p (reached-on p q);
     next = λ p q. keep-on 0 marks (S .next) p (reached-on p q);
     key = λ p q. keep-on 0 marks (S .key) p (reached-on p q);
     has = λ p q. keep-on false marks (S .has) p (reached-on p q);
     cleared = λ p q h u.
         keep-on 0 marks (clear fin heads (S .xmax)) p (reached-on p q)
-        ∙ clear-here fin heads (S .xmax) p (is-head p (h .0) (h .1) (h .2)) (below p (reached-on p q)) (inr (unfinished-says S _ .1 u));
+        ∙ clear-here fin heads (S .xmax) p (is-head p (h .0) (h .1) (h .2)) (below p (reached-on p q)) (inr (finished-says (S .active) (S .doomed) _ .1 u));
     marked = λ p q n. keep-on 0 marks (clear fin heads (S .xmax)) p (reached-on p q) ∙ xmax-same p n;
     freed = λ p n. let o = off p n in record {
       xmin = keep-off 0 marks (S .xmin) p o;

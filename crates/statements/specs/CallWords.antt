@@ -11,6 +11,7 @@ use Rattle.rules.specs.Lists.{any, memb, without}
 use Rattle.rules.specs.Types.{Store, Tx, Write, ReadRecord, IndexRead, Value, Absent, Record, Events, Reply, Seen, Written, Found}
 use Rattle.rules.specs.Store.{activeTxids}
 use Rattle.statements.specs.StoreWords.{Packed, Blank, SameSlot, Part, Active, Clock, RowLocks, Kept, Lowest, Taken}
+use Rattle.statements.specs.AdmittedWords.{Unfinished}
 use Rattle.statements.specs.ReadWords.{VisibleAt, NoneIn, FirstIn, LastOf, itsWrites, ofRow}
 
 -- WHAT IS EMPTIED AND WHAT IS KEPT
@@ -263,9 +264,9 @@ pub record Aborts (S : Store) (x : Tx) (L : ℕ → List ℕ) (a : Reply) : Type
 
 -- RECOVERY
 
--- '"Unfinished" means active or doomed'; 0, no txid, is neither
-abbrev pub Unfinished : Store → ℕ → Type 0
-Unfinished S t = (t ≢ 0) × ((memb t (S .active) ≡ true) ⊎ (t ≡ S .doomed))
+-- unfinished in the store S
+abbrev pub UnfinishedIn : Store → ℕ → Type 0
+UnfinishedIn S t = Unfinished (S .active) (S .doomed) t
 
 -- on a chain: a head, or next to a slot on a chain
 pub data Reached (heads next : List ℕ) : ℕ → Type 0 where
@@ -288,17 +289,17 @@ AllZero n l = (length l ≡ n) × ((i : ℕ) → getD l i 0 ≡ 0)
 -- what recovery makes of a repairable store S, row by row and slot by slot (the arrays' lengths are in `Recovered`)
 pub record Repaired (S D : Store) : Type 0 where
   -- "it removes an unfinished first version", and no other
-  pub removed : (r : ℕ) → r < rows → getD (S .heads) r 0 ≢ 0 → Unfinished S (getD (S .xmin) (getD (S .heads) r 0) 0)
+  pub removed : (r : ℕ) → r < rows → getD (S .heads) r 0 ≢ 0 → UnfinishedIn S (getD (S .xmin) (getD (S .heads) r 0) 0)
       → getD (D .heads) r 0 ≡ getD (S .next) (getD (S .heads) r 0) 0
-  pub stays : (r : ℕ) → r < rows → (Unfinished S (getD (S .xmin) (getD (S .heads) r 0) 0) → ⊥) → getD (D .heads) r 0 ≡ getD (S .heads) r 0
+  pub stays : (r : ℕ) → r < rows → (UnfinishedIn S (getD (S .xmin) (getD (S .heads) r 0) 0) → ⊥) → getD (D .heads) r 0 ≡ getD (S .heads) r 0
   -- the other versions of each chain stay: creator, next and value
   pub xmin : (p : ℕ) → Reached (D .heads) (S .next) p → getD (D .xmin) p 0 ≡ getD (S .xmin) p 0
   pub next : (p : ℕ) → Reached (D .heads) (S .next) p → getD (D .next) p 0 ≡ getD (S .next) p 0
   pub key : (p : ℕ) → Reached (D .heads) (S .next) p → getD (D .key) p 0 ≡ getD (S .key) p 0
   pub has : (p : ℕ) → Reached (D .heads) (S .next) p → getD (D .has) p false ≡ getD (S .has) p false
   -- "sets an unfinished head xmax to 0", and no other
-  pub cleared : (p : ℕ) → Reached (D .heads) (S .next) p → IsHead D p → Unfinished S (getD (S .xmax) p 0) → getD (D .xmax) p 0 ≡ 0
-  pub marked : (p : ℕ) → Reached (D .heads) (S .next) p → (IsHead D p → Unfinished S (getD (S .xmax) p 0) → ⊥) → getD (D .xmax) p 0 ≡ getD (S .xmax) p 0
+  pub cleared : (p : ℕ) → Reached (D .heads) (S .next) p → IsHead D p → UnfinishedIn S (getD (S .xmax) p 0) → getD (D .xmax) p 0 ≡ 0
+  pub marked : (p : ℕ) → Reached (D .heads) (S .next) p → (IsHead D p → UnfinishedIn S (getD (S .xmax) p 0) → ⊥) → getD (D .xmax) p 0 ≡ getD (S .xmax) p 0
   -- "frees off-chain slots"
   pub freed : (p : ℕ) → (Reached (D .heads) (S .next) p → ⊥) → Blank D p
   -- "rebuilds postings": exactly those of the heads
