@@ -3,17 +3,15 @@ use mathlib.Core.Path.{_≡_, refl}
 use mathlib.Core.Bool.{true}
 use Prim.Native.Nat.{ℕ, _≤_}
 use native.Mathlib.Omega.{arith}
-use lib.Dec.{eqb}
-use borrow.Author.Tests.{eqb-true, eqb-false}
-use Rattle.records.specs.Zero.{emptyStore, fresh}
+use Rattle.records.specs.Zero.{fresh}
 use Rattle.rules.specs.Types.{Store, Tx, Value}
 use Rattle.rules.specs.Admitted.{resting}
 use Rattle.rules.specs.Numbers.{numberOf}
 use Rattle.rules.specs.Calls.{begin, write, rowLock, abort}
 use Rattle.rules.specs.Computing.{computing}
-use Rattle.basic_laws.specs.Cases.{by}
 use Rattle.statements.specs.Sized.{Sized}
 use Rattle.admitted_laws.specs.Resting.{rests}
+use Rattle.sentences.specs.FirstLine.{either}
 use Rattle.sentences.specs.Refusals.{begin-refused, begin-accepted, write-refused, rowLock-refused, rowLock-accepted, abort-refused}
 use Rattle.call_laws.specs.Counts.{SizedTx}
 use Rattle.call_laws.specs.BeginLaws.{begin-keeps}
@@ -31,29 +29,6 @@ pub record Stays (S T : Store) : Type 0 where
 pub fresh-rests : resting fresh ≡ true
 unfolding computing
 fresh-rests = refl
-
--- and of the right sizes
-pub fresh-sized : Sized fresh
-unfolding emptyStore fresh
-fresh-sized = record {
-  heads = refl;
-  xmin = refl;
-  xmax = refl;
-  next = refl;
-  key = refl;
-  has = refl;
-  locked = refl;
-  owner = refl;
-  postings = refl;
-  «stripe_guards» = refl;
-  «partition_guards» = refl;
-  stamps = refl;
-  active = refl;
-}
-
--- an accepted call, or a refused one
-pub either : {A : Type 0} (n : ℕ) → (n ≡ 0 → A) → ((n ≡ 0 → ⊥) → A) → A
-either n f g = by (eqb n 0) (λ e. f (eqb-true n 0 e)) (λ e. g (eqb-false n 0 e))
 
 module _ (S : Store) (z : Sized S) (k : resting S ≡ true) where
   same : Stays S S

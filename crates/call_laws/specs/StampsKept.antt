@@ -42,7 +42,7 @@ use Rattle.statements.specs.ShowWords.{Stamped}
 use Rattle.sentences.specs.Refusals.{begin-refused, begin-accepted, write-refused, write-accepted, rowLock-refused, rowLock-accepted}
 use Rattle.sentences.specs.Refusals.{abort-refused, abort-accepted}
 use Rattle.call_laws.specs.BeginLaws.{mem-more, begin-begins}
-use Rattle.call_laws.specs.Always.{either}
+use Rattle.sentences.specs.FirstLine.{either}
 
 -- t is over: handed out, and no longer active
 abbrev pub Over : Store → ℕ → Type 0

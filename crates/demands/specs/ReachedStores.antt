@@ -34,9 +34,11 @@ use Rattle.recovery_laws.specs.Cuts.{recover-done, keyed-run}
 use Rattle.sentences.specs.Refusals.{begin-refused, begin-accepted, write-refused, write-accepted, rowLock-refused, rowLock-accepted}
 use Rattle.sentences.specs.Refusals.{abort-refused, abort-accepted}
 use Rattle.call_laws.specs.Passed.{begin-passed, write-passed, rowLock-passed, abort-passed}
-use Rattle.call_laws.specs.Always.{Stays, either, begin-stays, write-stays, rowLock-stays, abort-stays}
+use Rattle.sentences.specs.FirstLine.{either}
+use Rattle.sentences.specs.StoreSays.{empty-store}
+use Rattle.call_laws.specs.Always.{Stays, begin-stays, write-stays, rowLock-stays, abort-stays}
 use Rattle.call_laws.specs.StampsKept.{empty-stamped, begin-stamped, write-stamped, rowLock-stamped, abort-stamped, commit-stamped, recover-stamped}
-use Rattle.statements.specs.Sized.{Sized, SizedTx, Keyed}
+use Rattle.statements.specs.Sized.{SizedTx, Keyed}
 use Rattle.statements.specs.Words.{Admitted}
 use Rattle.statements.specs.ShowWords.{Stamped, Reached, empty, begun, written, locked, aborted, committed, Sound, ReachedShows}
 use Rattle.demands.specs.Shows.{recovered-shows}
@@ -67,27 +69,9 @@ stays-sound : (S T : Store) → Stays S T → Keyed T → Stamped T → Sound T
 stays-sound S T K k s = record { sized = K .sized; keyed = k; mendable = resting-parts T (K .rests) .mendable; stamped = s }
 
 -- the empty store
-empty-sized : (b : Bool) → Sized (emptyStore b)
-unfolding emptyStore
-empty-sized b = record {
-  heads = refl;
-  xmin = refl;
-  xmax = refl;
-  next = refl;
-  key = refl;
-  has = refl;
-  locked = refl;
-  owner = refl;
-  postings = refl;
-  «stripe_guards» = refl;
-  «partition_guards» = refl;
-  stamps = refl;
-  active = refl;
-}
-
 empty-sound : (b : Bool) → Sound (emptyStore b)
 unfolding computing
-empty-sound b = record { sized = empty-sized b; keyed = refl; mendable = refl; stamped = empty-stamped b }
+empty-sound b = record { sized = empty-store b .sized; keyed = refl; mendable = refl; stamped = empty-stamped b }
 
 module _ (S : Store) (G : Sound S) where
   -- each call: refused, it leaves the store; accepted, the store rested, and rests

@@ -10,7 +10,7 @@ use lib.Seq.{getD-set-other, getD-drop}
 use lib.Dec.{eqb, ltb}
 use borrow.Author.Tests.{eqb-true, eqb-false, not-true}
 use Rattle.records.specs.Limits.{keyEnd}
-use Rattle.rules.specs.Types.{Store, Tx, Schedule, Cut, Value, Absent, Key, Refusal}
+use Rattle.rules.specs.Types.{Store, Tx, Schedule, Cut, Value, Absent, Key}
 use Rattle.basic_laws.specs.Cases.{by, clash, mem-ne}
 use Rattle.rules.specs.Lists.{all, memb, isZero, nonzero, firstZero}
 use Rattle.rules.specs.Store.{postingsInForm}
@@ -25,7 +25,7 @@ use Rattle.run_laws.specs.OnlyKinds.{only, kept, is-not}
 use Rattle.basic_laws.specs.Members.{each-or}
 use Rattle.statements.specs.Sized.{Sized}
 use Rattle.statements.specs.OtherNumbers.{writeLines}
-use Rattle.sentences.specs.FirstLine.{none-applies}
+use Rattle.sentences.specs.FirstLine.{none-applies, either}
 use Rattle.sentences.specs.Refusals.{begin-accepted, begin-refused, rowLock-accepted, rowLock-refused, abort-accepted, abort-refused}
 use Rattle.sentences.specs.Refusals.{write-told, write-accepted, write-refused}
 use Rattle.run_laws.specs.Kinds.{abort-kinds}
@@ -58,17 +58,13 @@ module _ (ks : List ℕ) (i : memb kInsert ks ≡ false) (r : memb kRemove ks �
     rest = λ q. (doomed-kept ks d ps T o ∙ h .rest (sym (poisoned-kept ks p d ps T o) ∙ q) .0, e q);
   }
 
--- an answered call leaves one store where it is accepted, the store that was where it is refused
-answered : (why : Refusal) {T : Store} → (numberOf why ≡ 0 → Indexed T) → ((numberOf why ≡ 0 → ⊥) → Indexed T) → Indexed T
-answered why taken left = by (eqb (numberOf why) 0) (λ e. taken (eqb-true (numberOf why) 0 e)) (λ e. left (eqb-false (numberOf why) 0 e))
-
 -- "abort": the txid's off-chain slots freed, the txid dropped
 pub abort-indexed : (S : Store) (x : Tx) → Sized S → resting S ≡ true → Indexed (abort S x .store)
 abort-indexed S x sized r =
     let ks = kFree ∷ kDrop ∷ [] in
     let t = x .txid .0 in
     let freed = indexed-then ks refl refl refl refl (abortPuts S t) S (abort-kinds ks refl refl S t) (indexed S r) (aborted-exact S t sized r) in
-    answered (abort S x .refusal) (λ e. rw (abort-accepted S x e) freed) (λ n. rw (abort-refused S x n) (indexed S r))
+    either (numberOf (abort S x .refusal)) (λ e. rw (abort-accepted S x e) freed) (λ n. rw (abort-refused S x n) (indexed S r))
 
 -- puts that touch neither postings nor heads nor keys, poison nor doom
 abbrev elsewhere : List ℕ
@@ -81,13 +77,13 @@ indexed-kept ps T o h =
 
 -- "begin": the clock and the active list
 pub begin-indexed : (S : Store) → resting S ≡ true → Indexed (begin S .store)
-begin-indexed S r = answered (begin S .refusal)
+begin-indexed S r = either (numberOf (begin S .refusal))
     (λ e. rw (begin-accepted S e) (indexed-kept (putEnter (S .clock) ∷ putClock (suc (S .clock)) ∷ []) S refl (indexed S r)))
     (λ n. rw (begin-refused S n) (indexed S r))
 
 -- "row lock": the head's lock
 pub lock-indexed : (S : Store) (x : Tx) (r : ℕ) → resting S ≡ true → Indexed (rowLock S x r .store)
-lock-indexed S x r rests = answered (rowLock S x r .refusal)
+lock-indexed S x r rests = either (numberOf (rowLock S x r .refusal))
     (λ e. rw (rowLock-accepted S x r e) (indexed-kept (putLock (getD (S .heads) r 0) (x .txid .0) ∷ []) S refl (indexed S rests)))
     (λ n. rw (rowLock-refused S x r n) (indexed S rests))
 
@@ -127,7 +123,7 @@ taken-indexed S p t q (Key k) n h =
 
 -- "write": "the lowest free slot is taken"
 pub write-indexed : (S : Store) (x : Tx) (r : ℕ) (v : Value) → Sized S → resting S ≡ true → Indexed (write S x r v .store)
-write-indexed S x r v sized rests = answered (write S x r v .refusal)
+write-indexed S x r v sized rests = either (numberOf (write S x r v .refusal))
     (λ e. let free = none-applies (write S x r v .refusal) (writeLines S x r) (write-told S x r v) e .1 .1 .1 .1 .1 .1 .0 in
     rw (write-accepted S x r v e)
     (taken-indexed S (lowestFree (S .xmin)) (x .txid .0) (baseOf S x r) v (free-no-head S sized rests free) (indexed S rests)))

@@ -122,3 +122,7 @@ module _ {A : Type 0} (refusalOf : A → Refusal) (why : Refusal) (yes no : A) (
   -- accepted
   pub accepted : numberOf (refusalOf (cond (isDone why) yes no)) ≡ 0 → cond (isDone why) yes no ≡ yes
   accepted h = rw (eq-eqb (numberOf why) 0 (rw (refusal-is) at h))
+
+-- a call by its number: accepted, or refused
+pub either : {A : Type 0} (n : ℕ) → (n ≡ 0 → A) → ((n ≡ 0 → ⊥) → A) → A
+either n f g = by (eqb n 0) (λ e. f (eqb-true n 0 e)) (λ e. g (eqb-false n 0 e))

@@ -10,9 +10,9 @@ use native.Mathlib.Omega.{arith}
 use lib.ListN.{length, getD, set}
 use lib.Dec.{eqb, ltb, leb}
 use borrow.Author.Tests.{eqb-true, eqb-false, eq-eqb, ne-eqb, ltb-true, ltb-false, lt-ltb, leb-true, le-leb, not-true}
-use Rattle.records.specs.Limits.{rows, places, activeLimit}
-use Rattle.records.specs.Zero.{fresh, zeroTx, noFaults}
-use Rattle.rules.specs.Lists.{any, memb, pad, firstOf}
+use Rattle.records.specs.Limits.{rows, places}
+use Rattle.records.specs.Zero.{fresh, noFaults}
+use Rattle.rules.specs.Lists.{any, memb, firstOf}
 use Rattle.rules.specs.Types.{Store, Tx, Write, ReadRecord, Value, Absent, Key, Uncut, Done}
 use Rattle.rules.specs.Store.{posting, valueAt, activeTxids}
 use Rattle.rules.specs.Transaction.{snapshotOf, withReads}
@@ -34,6 +34,7 @@ use Rattle.basic_laws.specs.TestParts.{fit-parts}
 use Rattle.statements.specs.Sized.{Sized}
 use Rattle.statements.specs.ReadWords.{InSnapshot, Visible, VisibleAt, NoneIn, FirstIn, LastOf, ofRow, itsWrites, HasValue}
 use Rattle.statements.specs.ReadWords.{readOf, Kept, Reading, own, found, known, absent, InTurn, done, next}
+use Rattle.sentences.specs.Forged.{forged}
 use Rattle.sentences.specs.ReadsSay.{in-snapshot, meant-none, first-one}
 use Rattle.admitted_laws.specs.Repairable.{marks}
 use Rattle.admitted_laws.specs.Resting.{Rests, rests}
@@ -344,22 +345,7 @@ moved = record {
 
 -- txid 5, snapshot_xmin 4, snapshot_xmax 6; the snapshot holds 3, which is below snapshot_xmin
 unfoldable pub odd : Tx
-odd = record {
-  txid = record { 0 = 5 };
-  «snapshot_xmin» = record { 0 = 4 };
-  «snapshot_xmax» = record { 0 = 6 };
-  snapshot = pad activeLimit 0 (3 ∷ []);
-  «snapshot_count» = 1;
-  writes = zeroTx .writes;
-  «write_count» = 0;
-  reads = zeroTx .reads;
-  «read_count» = 0;
-  «index_reads» = zeroTx .«index_reads»;
-  «index_read_count» = 0;
-  «index_conflict» = false;
-  savepoints = zeroTx .savepoints;
-  «savepoint_count» = 0;
-}
+odd = forged 5 6 (3 ∷ [])
 
 -- the store rests and the transaction is fit and active: read gives 10, upstream's rule 20
 pub apart : (resting moved ≡ true)
@@ -368,7 +354,7 @@ pub apart : (resting moved ≡ true)
     × (read moved odd 0 .value ≡ Key 10)
     × (firstVisible moved odd 0 ≡ 2)
     × (valueAt (moved .key) (moved .has) 2 ≡ Key 20)
-unfolding moved odd computing
+unfolding moved odd forged computing
 apart = (refl, refl, refl, refl, refl, refl)
 
 -- the same transaction with a read record that points at slot 7, which is free, and says xmin t
@@ -380,5 +366,5 @@ pub free-read : (fit moved (pointing 0) ≡ true)
     × (commit moved (pointing 0) false noFaults Uncut .refusal ≡ Done)
     × (fit moved (pointing 3) ≡ true)
     × (numberOf (commit moved (pointing 3) false noFaults Uncut .refusal) ≡ 7)
-unfolding moved odd pointing computing
+unfolding moved odd forged pointing computing
 free-read = (refl, refl, refl, refl)
