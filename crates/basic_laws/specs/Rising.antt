@@ -8,7 +8,7 @@ use lib.ListN.{length}
 use lib.Dec.{eqb, ltb, leb}
 use borrow.Author.Tests.{eqb-true, eqb-false, eq-eqb, ltb-true, ltb-false, leb-true, le-leb}
 use Rattle.basic_laws.specs.Cases.{by, clash, iff, or-true, or-false, and-true, and-both, mem-here}
-use Rattle.rules.specs.Lists.{all, memb, same, rising, into, without, inOrder}
+use Rattle.rules.specs.Lists.{all, memb, same, rising, those, into, without, inOrder}
 use Rattle.basic_laws.specs.Members.{mem-those}
 use Rattle.basic_laws.specs.Rearranged.{or-same, or-swap, and-comm}
 
@@ -71,14 +71,16 @@ eqb-sym a b = iff (eqb a b) (eqb b a) (λ e. eq-eqb b a (sym (eqb-true a b e))) 
 pub mem-without : (c : ℕ) (l : List ℕ) (p : ℕ) → memb p (without c l) ≡ (not (eqb p c) && memb p l)
 mem-without c l p = rw (eqb-sym p c) (mem-those (λ y. not (eqb c y)) l p ∙ and-comm (memb p l) (not (eqb c p)))
 
--- .. and it still rises
+-- some of a rising list rise, and so do all but one
+pub rising-those : (lo : ℕ) (f : ℕ → Bool) (l : List ℕ) → rising lo l ≡ true → rising lo (those f l) ≡ true
+rising-those lo f [] h = refl
+rising-those lo f (x ∷ l) h =
+    let a = and-true (leb lo x) (rising (suc x) l) h in
+    let r = rising-those (suc x) f l (a .1) in
+    by (f x) (λ e. rw (e, a .0) r) (λ e. rw e (rising-less lo (suc x) (those f l) (omega (arith, leb-true lo x (a .0))) r))
+
 pub rising-without : (lo c : ℕ) (l : List ℕ) → rising lo l ≡ true → rising lo (without c l) ≡ true
-rising-without lo c [] h = refl
-rising-without lo c (y ∷ l) h =
-    let a = and-true (leb lo y) (rising (suc y) l) h in
-    by (eqb c y)
-    (λ e. rw e (rising-less lo (suc y) (without c l) (omega (arith, leb-true lo y (a .0))) (rising-without (suc y) c l (a .1))))
-    (λ e. rw (e, a .0) (rising-without (suc y) c l (a .1)))
+rising-without lo c l h = rising-those lo (λ y. not (eqb c y)) l h
 
 -- a rising list is told by its members
 pub rising-ext : (lo mo : ℕ) (a b : List ℕ) → rising lo a ≡ true → rising mo b ≡ true → ((x : ℕ) → memb x a ≡ memb x b) → a ≡ b

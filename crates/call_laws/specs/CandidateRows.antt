@@ -1,12 +1,12 @@
 -- Lookup's candidates and the rows that it finds: told by their members.
 use mathlib.Core.Path.{_≡_, refl, sym, _∙_}
-use mathlib.Core.Bool.{Bool, true, false, _||_}
+use mathlib.Core.Bool.{true, false, _||_}
 use mathlib.Core.List.{List, [], _∷_, _++_, map}
 use mathlib.Core.Logic.{_↔_}
-use Prim.Native.Nat.{ℕ, suc, _<_}
+use Prim.Native.Nat.{ℕ, _<_}
 use native.Mathlib.Omega.{arith}
-use lib.Dec.{eqb, leb}
-use borrow.Author.Tests.{eqb-true, ltb-true, leb-true}
+use lib.Dec.{eqb}
+use borrow.Author.Tests.{eqb-true, ltb-true}
 use Rattle.records.specs.Limits.{rows}
 use Rattle.rules.specs.Lists.{all, any, memb, those, rising}
 use Rattle.rules.specs.Types.{Store, Tx, Write, Key}
@@ -15,24 +15,14 @@ use Rattle.rules.specs.Transaction.{writesOf}
 use Rattle.rules.specs.Chains.{walk}
 use Rattle.rules.specs.Fit.{writeFit, fit}
 use Rattle.rules.specs.Calls.{readPtr, candidates, matching}
-use Rattle.basic_laws.specs.Cases.{by, clash, and-true, and-both, or-true}
+use Rattle.basic_laws.specs.Cases.{clash, and-true, and-both, or-true}
 use Rattle.basic_laws.specs.Members.{mem-those}
 use Rattle.basic_laws.specs.TestParts.{write-parts, fit-parts}
 use Rattle.posting_laws.specs.HeadsTold.{carries-key}
 use Rattle.posting_laws.specs.LookupFinds.{candidate-tells}
 use Rattle.posting_laws.specs.Posted.{mem-append}
-use Rattle.basic_laws.specs.Rising.{eqb-sym, rising-less, mem-inOrder, rising-inOrder}
+use Rattle.basic_laws.specs.Rising.{eqb-sym, mem-inOrder, rising-inOrder, rising-those}
 use Rattle.statements.specs.ReadWords.{ofRow}
-
--- some of a rising list rise
-rising-those : (lo : ℕ) (f : ℕ → Bool) (l : List ℕ) → rising lo l ≡ true → rising lo (those f l) ≡ true
-rising-those lo f [] h = refl
-rising-those lo f (x ∷ l) h =
-    let a = and-true (leb lo x) (rising (suc x) l) h in
-    let r = rising-those (suc x) f l (a .1) in
-    by (f x)
-    (λ e. rw (e, a .0) r)
-    (λ e. rw e (rising-less lo (suc x) (those f l) (omega (arith, leb-true lo x (a .0))) r))
 
 -- rows of writes
 mem-rows : (r : ℕ) (ws : List Write) → memb r (map (λ w. w .row .0) ws) ≡ any (ofRow r) ws

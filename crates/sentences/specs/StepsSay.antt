@@ -35,7 +35,7 @@ use Rattle.statements.specs.StepWords.{GuardedPartition, Takes, LetsGo, Publish
 use Rattle.statements.specs.StepWords.{Leads, here, along, OnChain, OffChainOf, Recycled, FreesAndDrops, RollsBack, CleanRun}
 use Rattle.basic_laws.specs.Cases.{by, clash, iff, or-true, or-false, or-left, or-right, and-true, and-false, and-both, mem-here, mem-there}
 use Rattle.basic_laws.specs.Members.{at-mem, mem-those, mem-nonzero}
-use Rattle.basic_laws.specs.Rising.{rising-less, rising-from, rising-ext, mem-inOrder, rising-inOrder}
+use Rattle.basic_laws.specs.Rising.{rising-less, rising-from, rising-ext, mem-inOrder, rising-inOrder, rising-those}
 use Rattle.basic_laws.specs.Places.{blank-at}
 use Rattle.basic_laws.specs.Chain.{IsChain}
 use Rattle.basic_laws.specs.Chained.{walk-sound}
@@ -52,14 +52,7 @@ rises lo (x ∷ l) h zero (suc b) lt lb =
 rises lo (x ∷ l) h (suc a) zero lt lb = absurd (omega arith)
 rises lo (x ∷ l) h (suc a) (suc b) lt lb = rises (suc x) l (and-true (leb lo x) (rising (suc x) l) h .1) a b (omega arith) (omega arith)
 
--- a rising list that is filtered still rises; so do the places of the nonzero numbers
-rising-those : (lo : ℕ) (f : ℕ → Bool) (l : List ℕ) → rising lo l ≡ true → rising lo (those f l) ≡ true
-rising-those lo f [] h = refl
-rising-those lo f (x ∷ l) h =
-    let a = and-true (leb lo x) (rising (suc x) l) h in
-    let r = rising-those (suc x) f l (a .1) in
-    by (f x) (λ e. rw (e, a .0) r) (λ e. rw e (rising-less lo (suc x) (those f l) (omega (arith, leb-true lo x (a .0))) r))
-
+-- the places of the nonzero numbers rise
 rising-nonzero : (k : ℕ) (l : List ℕ) → rising k (nonzeroFrom k l) ≡ true
 rising-nonzero k [] = refl
 rising-nonzero k (x ∷ l) =
