@@ -22,7 +22,7 @@ use Rattle.rules.specs.Recovery.{recover}
 use Rattle.rules.specs.Answer.{commit}
 use Rattle.rules.specs.Replay.{Line, lineB, lineR, lineW, lineK, lineC, lineF, start, txAt}
 use Rattle.rules.specs.Computing.{computing}
-use Rattle.sentences.specs.Mornings.{morning, written, done}
+use Rattle.mornings.specs.Mornings.{morning, written, done}
 use Rattle.demands.specs.Struck.{again, beaten}
 use Rattle.statements.specs.Words.{Admitted, rowValue}
 use Rattle.statements.specs.Sized.{Sized, Keyed}

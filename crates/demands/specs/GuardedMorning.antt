@@ -8,7 +8,7 @@ use Rattle.rules.specs.Lists.{flat, nonzeroFrom}
 use Rattle.rules.specs.Types.{Uncut, After, Key}
 use Rattle.rules.specs.Replay.{Line, lineB, lineR, lineW, lineL, lineC, start}
 use Rattle.rules.specs.Computing.{computing}
-use Rattle.sentences.specs.Mornings.{morning}
+use Rattle.mornings.specs.Mornings.{morning}
 
 -- keys 35 in row 3 and 7 in row 20 committed; then txid 2 looks for key 40, reads row 20 and writes key 36 to row 3
 unfoldable pub looked : List Line

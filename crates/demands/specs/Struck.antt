@@ -10,7 +10,7 @@ use Rattle.rules.specs.Transaction.{withReads}
 use Rattle.rules.specs.Faults.{F, B, P, X, Q}
 use Rattle.rules.specs.Replay.{Line, lineB, lineR, lineW, lineL, lineK, lineC, lineF, lineV, num, dash, Out, says, Desk, deskOf, start, txAt, laid, replayFrom}
 use Rattle.rules.specs.Computing.{computing}
-use Rattle.sentences.specs.Mornings.{morning, written, done}
+use Rattle.mornings.specs.Mornings.{morning, written, done}
 
 -- a line and what it answers
 pub record Said : Type 0 where

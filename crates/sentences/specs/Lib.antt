@@ -17,9 +17,6 @@ pub mod FaultsUnheeded
 pub mod RunSays
 pub mod FirstLine
 pub mod Refusals
--- "Replay": its bytes; its lines; and a table of both, computed
+-- "Replay": its bytes; its lines
 pub mod ScriptSays
 pub mod ReplaySays
-pub mod ReplayTable
--- "Mornings at a limit" and the example of "Replay", computed
-pub mod Mornings

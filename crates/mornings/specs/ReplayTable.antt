@@ -2,9 +2,8 @@
 use mathlib.Core.Path.{_≡_, refl}
 use mathlib.Core.List.{List, [], _∷_, _++_}
 use Rattle.rules.specs.Lists.{flat}
-use Rattle.rules.specs.Script.{replayText}
+use Rattle.rules.specs.Script.{Bytes, replayText}
 use Rattle.rules.specs.Computing.{computing}
-use Rattle.statements.specs.ReplayWords.{Bytes}
 
 -- a line and its answer
 unfoldable pub replayTable : List (Bytes × Bytes)
