@@ -1,6 +1,5 @@
 -- Laws of begin, read, write, lookup, row lock and abort.
 -- Their numbers.
-pub mod RefusedCalls
 pub mod Passed
 -- What the store and the transaction keep.
 pub mod ActiveList

@@ -17,6 +17,7 @@ pub mod FaultsUnheeded
 pub mod RunSays
 pub mod FirstLine
 pub mod Refusals
+pub mod RefusedCalls
 -- "Replay": its bytes; its lines
 pub mod ScriptSays
 pub mod ReplaySays

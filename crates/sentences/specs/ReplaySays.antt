@@ -6,22 +6,20 @@ use mathlib.Core.Logic.{_≢_}
 use Prim.Native.Nat.{ℕ, zero, suc, _+_, _-_, _*_, _/_, _%_, _^_, _<_, _≤_}
 use native.Mathlib.Nat.{pow-suc}
 use native.Mathlib.Omega.{arith}
-use lib.Dec.{eqb, ltb, leb}
+use lib.Dec.{eqb, ltb}
 use lib.ListN.{length, getD, set, replicate, length-append, length-set, length-replicate, length-take}
 use lib.ListN.{List·getD-append, List·getD-eq-default}
 use lib.Seq.{getD-set-same, getD-set-other, getD-append-seam, getD-at, getD-take, length-take-le}
 use borrow.Author.Tests.{ltb-true, ltb-false, lt-ltb, le-ltb, eq-eqb, ne-eqb, eqb-true, eqb-false, not-true}
-use Rattle.records.specs.Limits.{rows, writeLimit, readLimit, placeLimit, faultLimit, digits64}
+use Rattle.records.specs.Limits.{placeLimit, faultLimit, digits64}
 use Rattle.records.specs.Relations.{wide-written}
-use Rattle.records.specs.Zero.{emptyStore, fresh, onlyTxid, zeroTx, noWrite, noRead, noIndexRead, noFault, noFaults}
+use Rattle.records.specs.Zero.{zeroTx, noFault, noFaults}
 use Rattle.rules.specs.Lists.{all, memb, pad}
-use Rattle.rules.specs.Types.{Store, Tx, Fault, Schedule, Value, Absent, Key, Cut, Open}
-use Rattle.rules.specs.Types.{RowTooHigh, ReadsFull, WritesFull, SlotsFull}
-use Rattle.rules.specs.Transaction.{readsOf}
+use Rattle.rules.specs.Types.{Store, Tx, Fault, Schedule, Value, Absent, Key, Cut}
 use Rattle.rules.specs.Faults.{may, table, allowed, stepsApart, faultsOf, scheduleFit}
-use Rattle.rules.specs.Numbers.{numberOf, isDone, refuse}
+use Rattle.rules.specs.Numbers.{numberOf}
 use Rattle.rules.specs.Answer.{commit}
-use Rattle.rules.specs.Calls.{admitsHealthy, begin, read, lowestFree, write, candidates, recordReads, lookup, rowLock, abort}
+use Rattle.rules.specs.Calls.{begin, read, write, lookup, rowLock, abort}
 use Rattle.rules.specs.Replay.{Line, lineB, lineR, lineW, lineL, lineK, lineA, lineC, lineF, lineV, lineBad, Third, num, dash, Out, Desk}
 use Rattle.rules.specs.Replay.{start, valueThird, withFault, turn, replayFrom, replay}
 use Rattle.rules.specs.Script as script
@@ -36,6 +34,7 @@ use Rattle.statements.specs.ReplayWords.{Locks, Aborts, NoFaults, Commits, OneM
 use Rattle.statements.specs.ReplayWords.{Refused, Does, Plays, Starts, Replays}
 use Rattle.sentences.specs.StoreSays.{fresh-store}
 use Rattle.sentences.specs.CallsSay.{zero-tx}
+use Rattle.sentences.specs.Refusals.{write-refused, lookup-refused}
 use Rattle.sentences.specs.ScriptSays.{script-says}
 
 -- WHAT EACH LINE DOES
@@ -79,20 +78,10 @@ read-line i r d =
 
 -- "A refused call .. answers none, 0, empty": a refused write has no slot, a refused lookup no rows
 write-none : (S : Store) (x : Tx) (r : ℕ) (v : Value) → numberOf (write S x r v .refusal) ≢ 0 → write S x r v .slot .0 ≡ 0
-unfolding write
-write-none S x r v =
-    let why = admitsHealthy S x (
-    refuse (leb rows r) (RowTooHigh Open)
-    ∷ refuse (leb writeLimit (x .«write_count»)) (WritesFull Open)
-    ∷ refuse (eqb (lowestFree (S .xmin)) 0) (SlotsFull Open)
-    ∷ []) in
-    by (isDone why) (λ t. rw t (λ n. absurd (n (eqb-true (numberOf why) 0 t)))) (λ t. rw t (λ n. refl))
+write-none S x r v n = rw (write-refused S x r v n)
 
 lookup-none : (S : Store) (x : Tx) (k : ℕ) → numberOf (lookup S x k .refusal) ≢ 0 → lookup S x k .count ≡ 0
-unfolding lookup
-lookup-none S x k =
-    let why = admitsHealthy S x (refuse (ltb readLimit (length (recordReads S x (candidates S x k) (readsOf x)))) (ReadsFull Open) ∷ []) in
-    by (isDone why) (λ t. rw t (λ n. absurd (n (eqb-true (numberOf why) 0 t)))) (λ t. rw t (λ n. refl))
+lookup-none S x k n = rw (lookup-refused S x k n)
 
 write-line : (i r : ℕ) (v : Value) (d : Desk) → Writes i r v d (turn (lineW i r v) d .desk) (turn (lineW i r v) d .out)
 unfolding turn
