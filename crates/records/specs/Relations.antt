@@ -23,12 +23,9 @@ rows-some = omega arith
 pub stripes-some : 0 < stripes
 stripes-some = omega arith
 
--- a slot pointer and a place of a script have 32 bits (casts of the code; commit Publish, script Accepted)
+-- a slot pointer has 32 bits (casts of the code; commit Publish)
 pub slots-narrow : places ≤ keyEnd
 slots-narrow = omega arith
-
-pub places-narrow : placeLimit ≤ keyEnd
-places-narrow = omega arith
 
 -- a posting, and the kind and place of a put in one word, have 64 bits (products of the code)
 pub postings-wide : keyEnd * rows ≤ suc clockEnd
@@ -61,7 +58,7 @@ undo-puts = omega arith
 pub call-puts : 3 ≤ putLimit
 call-puts = omega arith
 
--- a place, a number of 32 bits and one of 64 bits can be written (script Decimal, replay_core Long)
+-- a place, a number of 32 bits and one of 64 bits can be written (sentences ReplaySays, replay_core Long)
 pub place-written : placeLimit ≤ 10 ^ placeDigits
 place-written = omega arith
 
