@@ -296,52 +296,32 @@ module _ (S : Store) (x : Tx) where
         last = λ _. refl;
       }
 
-  -- guards let go before the tests are passed, and then other stores
+  -- guards let go before the tests are passed, and then other stores: none, the stripes', or all
+  let-go : (n : ℕ) (made W : List Put) (ss ps : List ℕ) → leb 14 n ≡ false → (o : only unguarded W ≡ true)
+      → (ss ≡ []) ⊎ (ss ≡ guardedStripes (changes S x) x) → (ps ≡ []) ⊎ (ps ≡ guardedPartitions x)
+      → made ≡ whole S (x .txid .0) ss ps [] W refl o → Shape n made
+  let-go n made W ss ps l o si pi e = record {
+    ss = ss;
+    ps = ps;
+    amid = [];
+    rest = W;
+    amid-spares = refl;
+    rest-spares = o;
+    are = e;
+    stripes = si;
+    partitions = pi;
+    all-stripes = λ h. clash h l;
+    all-partitions = λ h. clash h l;
+    last = λ h. clash h l;
+  }
+
   early : (n : ℕ) (logged : Bool) (plan : Schedule) (made W : List Put) {taken back : List Put} → leb 14 n ≡ false → only unguarded W ≡ true
       → Taken S x logged plan taken back → made ≡ taken ++ (back ++ W) → Shape n made
   unfolding indexGuards partitionGuards release
-  early n logged plan made W l o neither e = record {
-    ss = [];
-    ps = [];
-    amid = [];
-    rest = W;
-    amid-spares = refl;
-    rest-spares = o;
-    are = e;
-    stripes = inl refl;
-    partitions = inl refl;
-    all-stripes = λ h. clash h l;
-    all-partitions = λ h. clash h l;
-    last = λ h. clash h l;
-  }
-  early n logged plan made W l o index e = record {
-    ss = guardedStripes (changes S x) x;
-    ps = [];
-    amid = [];
-    rest = W;
-    amid-spares = refl;
-    rest-spares = o;
-    are = e;
-    stripes = inr refl;
-    partitions = inl refl;
-    all-stripes = λ h. clash h l;
-    all-partitions = λ h. clash h l;
-    last = λ h. clash h l;
-  }
-  early n logged plan made W l o both e = record {
-    ss = guardedStripes (changes S x) x;
-    ps = guardedPartitions x;
-    amid = [];
-    rest = W;
-    amid-spares = refl;
-    rest-spares = o;
-    are = e ∙ simp append-assoc;
-    stripes = inr refl;
-    partitions = inr refl;
-    all-stripes = λ h. clash h l;
-    all-partitions = λ h. clash h l;
-    last = λ h. clash h l;
-  }
+  early n logged plan made W l o neither e = let-go n made W [] [] l o (inl refl) (inl refl) e
+  early n logged plan made W l o index e = let-go n made W (guardedStripes (changes S x) x) [] l o (inr refl) (inl refl) e
+  early n logged plan made W l o both e =
+      let-go n made W (guardedStripes (changes S x) x) (guardedPartitions x) l o (inr refl) (inr refl) (e ∙ simp append-assoc)
 
   module _ (logged : Bool) (plan : Schedule) where
     -- the stores between the guards, up to steps 15, 17, 18, 19 and 21

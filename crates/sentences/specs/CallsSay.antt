@@ -12,12 +12,12 @@ use Rattle.rules.specs.Lists.{pad}
 use Rattle.rules.specs.Types.{Tx, Write, Refusal, Done}
 use Rattle.rules.specs.Transaction.{writesOf, finals, withWrites, noWrites, noAccesses, emptied}
 use Rattle.rules.specs.Numbers.{numberOf}
-use Rattle.rules.specs.Answer.{eventsOf, noEvents, noRecord, recordOf}
+use Rattle.rules.specs.Answer.{noRecord, recordOf}
 use borrow.Author.Tests.{ne-eqb}
 use Rattle.basic_laws.specs.LaidOut.{pad-length}
 use Rattle.basic_laws.specs.Placed.{pad-here, pad-behind}
 use Rattle.statements.specs.CallWords.{ZeroWrite, ZeroRead, ZeroIndexRead, Zero, ZeroFrom, Empty}
-use Rattle.statements.specs.CallWords.{ListsEmptied, AccessesEmptied, WritesEmptied, OnlyTxid, OneWriteMore, ZeroRecord, Names, NoFlag}
+use Rattle.statements.specs.CallWords.{ListsEmptied, AccessesEmptied, WritesEmptied, OnlyTxid, OneWriteMore, ZeroRecord, Names}
 
 -- behind a list that is laid out the places are zero entries, and an empty one has no others
 module _ {A : Type 0} (z : A) (Z : A → Type 0) (e : Z z) where
@@ -151,31 +151,3 @@ names-finals x le = record {
 pub record-names : (x : Tx) → length (finals x) ≤ writeLimit → Names (x .txid .0) (finals x) (recordOf Done x)
 unfolding recordOf
 record-names x le = names-finals x le
-
--- "zero on 1, 2, 3 and 18"
-pub no-flag : NoFlag noEvents
-unfolding noEvents eventsOf
-no-flag = record {
-  «index_locked» = refl;
-  «partition_locked» = refl;
-  «index_validated» = refl;
-  «row_lock_validated» = refl;
-  «serial_validated» = refl;
-  «base_validated» = refl;
-  «write_ahead» = refl;
-  «durably_bound» = refl;
-  «has_writes» = refl;
-  «unlogged_write_checked» = refl;
-  «health_checked» = refl;
-  «health_cleanup_required» = refl;
-  «record_prepared» = refl;
-  «payload_prepared» = refl;
-  «preparation_cleanup_required» = refl;
-  «destinations_prepared» = refl;
-  «callback_complete» = refl;
-  prepared = refl;
-  «rows_published» = refl;
-  deregistered = refl;
-  stamped = refl;
-  poisoned = refl;
-}

@@ -10,6 +10,7 @@ use lib.Seq.{getD-take}
 use lib.Dec.{eqb, ltb}
 use borrow.Author.Tests.{eqb-true, eq-eqb, ltb-true, lt-ltb, not-true}
 use Rattle.records.specs.Limits.{readLimit, indexReadLimit}
+use Rattle.records.specs.Setters.{withLists}
 use Rattle.rules.specs.Lists.{any, memb, pad, firstOf}
 use Rattle.rules.specs.Types.{Store, Tx, ReadRecord, IndexRead, Value, Absent, Key}
 use Rattle.rules.specs.Store.{valueAt}
@@ -115,6 +116,21 @@ laid-out n z l h = record { long = pad-length n z l; counted = refl; holds = λ 
     at (suc n) (y ∷ l) zero h = refl
     at (suc n) (y ∷ l) (suc i) h = at n l i (omega arith)
 
+-- other reads and index reads leave all else
+kept-beside : (x : Tx) (rs : List ReadRecord) (nr : ℕ) (is : List IndexRead) (ni : ℕ) (b : Bool)
+    → Kept x (withLists (x .writes) (x .«write_count») rs nr is ni b (x .savepoints) (x .«savepoint_count») x)
+kept-beside x rs nr is ni b = record {
+  txid = refl;
+  «snapshot_xmin» = refl;
+  «snapshot_xmax» = refl;
+  snapshot = refl;
+  «snapshot_count» = refl;
+  writes = refl;
+  «write_count» = refl;
+  savepoints = refl;
+  «savepoint_count» = refl;
+}
+
 -- other reads: nothing else changes
 pub reads-alone : (x : Tx) (l : List ReadRecord) → length l ≤ readLimit
     → Kept x (withReads l x)
@@ -122,20 +138,7 @@ pub reads-alone : (x : Tx) (l : List ReadRecord) → length l ≤ readLimit
     × (withReads l x .«index_reads» ≡ x .«index_reads»)
     × (withReads l x .«index_read_count» ≡ x .«index_read_count»)
     × (withReads l x .«index_conflict» ≡ x .«index_conflict»)
-reads-alone x l h = (kept-all, laid-out readLimit (readOf 0 0 0) l h, refl, refl, refl)
-  where
-    kept-all : Kept x (withReads l x)
-    kept-all = record {
-      txid = refl;
-      «snapshot_xmin» = refl;
-      «snapshot_xmax» = refl;
-      snapshot = refl;
-      «snapshot_count» = refl;
-      writes = refl;
-      «write_count» = refl;
-      savepoints = refl;
-      «savepoint_count» = refl;
-    }
+reads-alone x l h = (kept-beside x _ _ _ _ _, laid-out readLimit (readOf 0 0 0) l h, refl, refl, refl)
 
 -- other index reads and index_conflict: nothing else changes
 pub index-reads-alone : (x : Tx) (l : List IndexRead) (b : Bool) → length l ≤ indexReadLimit
@@ -144,20 +147,7 @@ pub index-reads-alone : (x : Tx) (l : List IndexRead) (b : Bool) → length l �
     × (withIndexReads l b x .«index_conflict» ≡ b)
     × (withIndexReads l b x .reads ≡ x .reads)
     × (withIndexReads l b x .«read_count» ≡ x .«read_count»)
-index-reads-alone x l b h = (kept-all, laid-out indexReadLimit (indexReadOf 0 0) l h, refl, refl, refl)
-  where
-    kept-all : Kept x (withIndexReads l b x)
-    kept-all = record {
-      txid = refl;
-      «snapshot_xmin» = refl;
-      «snapshot_xmax» = refl;
-      snapshot = refl;
-      «snapshot_count» = refl;
-      writes = refl;
-      «write_count» = refl;
-      savepoints = refl;
-      «savepoint_count» = refl;
-    }
+index-reads-alone x l b h = (kept-beside x _ _ _ _ _, laid-out indexReadLimit (indexReadOf 0 0) l h, refl, refl, refl)
 
 -- the one after the other
 pub kept-both : {x y z : Tx} → Kept x y → Kept y z → Kept x z

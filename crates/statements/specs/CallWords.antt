@@ -8,7 +8,7 @@ use lib.ListN.{length, getD, take}
 use lib.Dec.{eqb}
 use Rattle.records.specs.Limits.{rows, stripes, partitions, activeLimit, writeLimit, readLimit, indexReadLimit, savepointLimit}
 use Rattle.rules.specs.Lists.{any, memb, without}
-use Rattle.rules.specs.Types.{Store, Tx, Write, ReadRecord, IndexRead, Value, Absent, Record, Events, Reply, Seen, Written, Found}
+use Rattle.rules.specs.Types.{Store, Tx, Write, ReadRecord, IndexRead, Value, Absent, Record, Reply, Seen, Written, Found}
 use Rattle.rules.specs.Store.{activeTxids}
 use Rattle.statements.specs.StoreWords.{Packed, Blank, SameSlot, Part, Active, Clock, RowLocks, Kept, Lowest, Taken}
 use Rattle.statements.specs.AdmittedWords.{Unfinished}
@@ -132,31 +132,6 @@ pub record Names (t : ℕ) (ws : List Write) (r : Record) : Type 0 where
   pub count : r .count ≡ length ws
   pub writes : (d : Write) (i : ℕ) → i < length ws → getD (r .writes) i d ≡ getD ws i d
   pub behind : ZeroFrom ZeroWrite writeLimit (length ws) (r .writes)
-
--- "The 22 Events are returned as flags, zero on 1, 2, 3 and 18"
-pub record NoFlag (e : Events) : Type 0 where
-  pub «index_locked» : e .«index_locked» ≡ false
-  pub «partition_locked» : e .«partition_locked» ≡ false
-  pub «index_validated» : e .«index_validated» ≡ false
-  pub «row_lock_validated» : e .«row_lock_validated» ≡ false
-  pub «serial_validated» : e .«serial_validated» ≡ false
-  pub «base_validated» : e .«base_validated» ≡ false
-  pub «write_ahead» : e .«write_ahead» ≡ false
-  pub «durably_bound» : e .«durably_bound» ≡ false
-  pub «has_writes» : e .«has_writes» ≡ false
-  pub «unlogged_write_checked» : e .«unlogged_write_checked» ≡ false
-  pub «health_checked» : e .«health_checked» ≡ false
-  pub «health_cleanup_required» : e .«health_cleanup_required» ≡ false
-  pub «record_prepared» : e .«record_prepared» ≡ false
-  pub «payload_prepared» : e .«payload_prepared» ≡ false
-  pub «preparation_cleanup_required» : e .«preparation_cleanup_required» ≡ false
-  pub «destinations_prepared» : e .«destinations_prepared» ≡ false
-  pub «callback_complete» : e .«callback_complete» ≡ false
-  pub prepared : e .prepared ≡ false
-  pub «rows_published» : e .«rows_published» ≡ false
-  pub deregistered : e .deregistered ≡ false
-  pub stamped : e .stamped ≡ false
-  pub poisoned : e .poisoned ≡ false
 
 -- "A refused call beside commit answers none, 0, empty or a zero transaction"; "unchanged"
 pub record RefusedBegin (S : Store) (a : Reply) : Type 0 where
