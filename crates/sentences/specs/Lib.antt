@@ -13,7 +13,8 @@ pub mod Forged
 pub mod StepsSay
 pub mod FaultsSay
 pub mod FaultsUnheeded
--- "Numbers seen": commit's table, straight from the steps; the other calls' tables
+-- "Numbers seen": the numbers and fates; commit's table, straight from the steps; the other calls' tables
+pub mod NumbersSay
 pub mod RunSays
 pub mod FirstLine
 pub mod Refusals
