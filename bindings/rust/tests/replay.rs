@@ -72,7 +72,7 @@ fn seventeen_begins() {
 
 #[test]
 fn a_cut_commit_and_recovery() {
-    let script = b"B\t0\nW\t0\t3\t35\nC\t0\tu\t4\nV\nB\t0\nR\t0\t3\nR\t0\t64\n";
+    let script = b"B\t0\nW\t0\t3\t35\nC\t0\tu\t4\nV\nB\t0\nR\t0\t3\nR\t0\t4294967295\n";
     let answers = b"1\t0\t1\n2\t0\t1\n3\t18\t4\n4\t0\t0\n5\t0\t2\n6\t0\t-\n7\t23\t0\n";
     assert_eq!(replay(script), answers);
 }
@@ -131,7 +131,7 @@ fn the_vector_is_no_longer_than_the_answers() {
 
 #[test]
 fn typed_answers() {
-    let script = b"B\t0\nR\t0\t3\nR\t0\t64\nW\t0\t3\t35\nC\t0\tu\t4";
+    let script = b"B\t0\nR\t0\t3\nR\t0\t4294967295\nW\t0\t3\t35\nC\t0\tu\t4";
     let mut typed = answers(script);
     assert_eq!(typed.len(), 5);
     let first = Answer {
@@ -171,7 +171,7 @@ fn typed_answers_are_the_text() {
 
 #[test]
 fn a_result_is_the_value_or_the_refusal() {
-    let results: Vec<_> = answers(b"B\t0\nR\t0\t3\nR\t0\t64")
+    let results: Vec<_> = answers(b"B\t0\nR\t0\t3\nR\t0\t4294967295")
         .map(|a| a.result())
         .collect();
     assert_eq!(results[..2], [Ok(Some(1)), Ok(None)]);

@@ -73,11 +73,11 @@ counts-say x =
     (more _ _ (each-place 0 isZero (λ t. t ≡ 0) (λ t. same-number t 0) (drop (x .«snapshot_count») (x .snapshot)))
     (last _ (each-place 0 isZero (λ n. n ≡ 0) (λ n. same-number n 0) (drop (x .«savepoint_count») (x .savepoints))))))))))))
 
--- "rows below 64; read pointers 1 to 256"
+-- "rows below" the limit; "read pointers 1 to" the last slot
 abbrev pub ReadFits : ReadRecord → Type 0
 ReadFits r = (r .row .0 < rows) × ((1 ≤ r .ptr .0) × (r .ptr .0 ≤ slots))
 
--- "bases 0 to 256; each new pointer .. used, off every chain, with xmin the txid, next the base"
+-- "bases 0 to" the last slot; "each new pointer .. used, off every chain, with xmin the txid, next the base"
 abbrev pub WriteFits : Store → (ℕ → List ℕ) → ℕ → Write → Type 0
 WriteFits S L t w =
     (w .row .0 < rows)

@@ -47,7 +47,7 @@ pub record ActiveForm (act : List ℕ) (clock : ℕ) : Type 0 where
 abbrev pub Off : List ℕ → (ℕ → List ℕ) → ℕ → Type 0
 Off heads L p = (r : ℕ) → r < length heads → memb p (L r) ≡ false
 
--- "a used slot off every chain has an unfinished xmin, xmax 0, next at most 256"
+-- "a used slot off every chain has an unfinished xmin, xmax 0, next at most" the last slot
 pub record OffForm (xmin xmax next : List ℕ) (f : ℕ → Bool) (p : ℕ) : Type 0 where
   pub unfinished : f (getD xmin p 0) ≡ false
   pub unmarked : getD xmax p 0 ≡ 0

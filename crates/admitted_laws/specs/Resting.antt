@@ -20,7 +20,7 @@ use Rattle.basic_laws.specs.TestParts.{resting-parts, parts-resting}
 use Rattle.basic_laws.specs.Places.{zero-at, at-zero, zero-from, from-zero, Rising, rising-is, is-rising}
 use Rattle.admitted_laws.specs.Repairable.{Mends, mends, mended, marks}
 
--- postings "kept rising, packed, unique, at most 128"; the keys are of 32 bits
+-- postings "kept rising, packed, unique, at most" the limit; the keys are of 32 bits
 pub record PostingForm (S : Store) : Type 0 where
   pub few : S .«posting_count» ≤ postingLimit
   pub climb : Rising 0 (postingsOf S)

@@ -19,7 +19,7 @@ module _ (key : List ℕ) (has : List Bool) where
       (λ e. rw e (rising-into 0 (posting (getD key h 0) r) (headPostings key has (suc r) hs) (omega arith) (heads-rising (suc r) hs)))
       (λ e. rw e (heads-rising (suc r) hs))
 
-  -- "at most 128" has room: no more postings than heads
+  -- the limit of postings has room: no more postings than heads
   pub heads-length : (r : ℕ) (hs : List ℕ) → length (headPostings key has r hs) ≤ length hs
   heads-length r [] = omega arith
   heads-length r (h ∷ hs) = by (getD has h false)

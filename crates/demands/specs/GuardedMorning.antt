@@ -1,4 +1,4 @@
--- A morning computed at the paper's numbers: which guards are held after some of a commit's stores, and which stripes are stamped.
+-- A morning computed at the paper's stripes and partitions: which guards are held after some of a commit's stores, and which stripes are stamped.
 use mathlib.Core.Path.{_≡_, refl}
 use mathlib.Core.Bool.{false}
 use mathlib.Core.List.{List, [], _∷_, _++_, map}

@@ -1,9 +1,24 @@
--- "Replay", computed: a script with every form and many lines of no form, each beside its answer, from bytes to bytes at the paper's numbers.
+-- "Replay", computed: a script with every form and many lines of no form, each beside its answer, from bytes to bytes, at the limits whatever they are.
 use mathlib.Core.Path.{_≡_, refl}
 use mathlib.Core.List.{List, [], _∷_, _++_}
+use Prim.Native.Nat.{_-_}
+use Rattle.records.specs.Limits.{rows, placeLimit, digits32}
 use Rattle.rules.specs.Lists.{flat}
-use Rattle.rules.specs.Script.{Bytes, replayText}
+use Rattle.rules.specs.Script.{Bytes, decimal, replayText}
 use Rattle.rules.specs.Computing.{computing}
+
+-- the last row and the first number that is no row, each with what follows it; the same of places
+abbrev lastRow : Bytes → Bytes
+lastRow = decimal digits32 (rows - 1)
+
+abbrev noRow : Bytes → Bytes
+noRow = decimal digits32 rows
+
+abbrev lastPlace : Bytes → Bytes
+lastPlace = decimal digits32 (placeLimit - 1)
+
+abbrev noPlace : Bytes → Bytes
+noPlace = decimal digits32 placeLimit
 
 -- a line and its answer
 unfoldable pub replayTable : List (Bytes × Bytes)
@@ -12,31 +27,31 @@ replayTable =
     (66 ∷ 9 ∷ 48 ∷ [], 49 ∷ 9 ∷ 48 ∷ 9 ∷ 49 ∷ [])  -- B 0: 1 0 1
     ∷ (82 ∷ 9 ∷ 48 ∷ 9 ∷ 51 ∷ [], 50 ∷ 9 ∷ 48 ∷ 9 ∷ 45 ∷ [])  -- R 0 3: 2 0 -
     ∷ (87 ∷ 9 ∷ 48 ∷ 9 ∷ 51 ∷ 9 ∷ 51 ∷ 53 ∷ [], 51 ∷ 9 ∷ 48 ∷ 9 ∷ 49 ∷ [])  -- W 0 3 35: 3 0 1
-    ∷ (87 ∷ 9 ∷ 48 ∷ 9 ∷ 54 ∷ 52 ∷ 9 ∷ 55 ∷ [], 52 ∷ 9 ∷ 50 ∷ 51 ∷ 9 ∷ 48 ∷ [])  -- W 0 64 7: 4 23 0
+    ∷ (87 ∷ 9 ∷ 48 ∷ 9 ∷ noRow (9 ∷ 55 ∷ []), 52 ∷ 9 ∷ 50 ∷ 51 ∷ 9 ∷ 48 ∷ [])  -- W 0 noRow 7: 4 23 0
     ∷ (82 ∷ 9 ∷ 48 ∷ 9 ∷ 51 ∷ [], 53 ∷ 9 ∷ 48 ∷ 9 ∷ 51 ∷ 53 ∷ [])  -- R 0 3: 5 0 35
-    ∷ (82 ∷ 9 ∷ 48 ∷ 9 ∷ 54 ∷ 52 ∷ [], 54 ∷ 9 ∷ 50 ∷ 51 ∷ 9 ∷ 48 ∷ [])  -- R 0 64: 6 23 0
+    ∷ (82 ∷ 9 ∷ 48 ∷ 9 ∷ noRow [], 54 ∷ 9 ∷ 50 ∷ 51 ∷ 9 ∷ 48 ∷ [])  -- R 0 noRow: 6 23 0
     ∷ (75 ∷ 9 ∷ 48 ∷ 9 ∷ 51 ∷ [], 55 ∷ 9 ∷ 50 ∷ 56 ∷ 9 ∷ 48 ∷ [])  -- K 0 3: 7 28 0
     ∷ (67 ∷ 9 ∷ 48 ∷ 9 ∷ 117 ∷ [], 56 ∷ 9 ∷ 48 ∷ 9 ∷ 56 ∷ [])  -- C 0 u: 8 0 8
-    ∷ (66 ∷ 9 ∷ 49 ∷ 53 ∷ [], 57 ∷ 9 ∷ 48 ∷ 9 ∷ 50 ∷ [])  -- B 15: 9 0 2
-    ∷ (82 ∷ 9 ∷ 49 ∷ 53 ∷ 9 ∷ 51 ∷ [], 49 ∷ 48 ∷ 9 ∷ 48 ∷ 9 ∷ 51 ∷ 53 ∷ [])  -- R 15 3: 10 0 35
-    ∷ (75 ∷ 9 ∷ 49 ∷ 53 ∷ 9 ∷ 51 ∷ [], 49 ∷ 49 ∷ 9 ∷ 48 ∷ 9 ∷ 48 ∷ [])  -- K 15 3: 11 0 0
-    ∷ (76 ∷ 9 ∷ 49 ∷ 53 ∷ 9 ∷ 51 ∷ 53 ∷ [], 49 ∷ 50 ∷ 9 ∷ 48 ∷ 9 ∷ 49 ∷ [])  -- L 15 35: 12 0 1
-    ∷ (76 ∷ 9 ∷ 49 ∷ 53 ∷ 9 ∷ 53 ∷ 49 ∷ [], 49 ∷ 51 ∷ 9 ∷ 48 ∷ 9 ∷ 48 ∷ [])  -- L 15 51: 13 0 0
-    ∷ (87 ∷ 9 ∷ 49 ∷ 53 ∷ 9 ∷ 52 ∷ 9 ∷ 52 ∷ 50 ∷ 57 ∷ 52 ∷ 57 ∷ 54 ∷ 55 ∷ 50 ∷ 57 ∷ 53 ∷ [], 49 ∷ 52 ∷ 9 ∷ 48 ∷ 9 ∷ 50 ∷ [])  -- W 15 4 4294967295: 14 0 2
-    ∷ (87 ∷ 9 ∷ 49 ∷ 53 ∷ 9 ∷ 52 ∷ 9 ∷ 52 ∷ 50 ∷ 57 ∷ 52 ∷ 57 ∷ 54 ∷ 55 ∷ 50 ∷ 57 ∷ 54 ∷ [], 49 ∷ 53 ∷ 9 ∷ 50 ∷ 9 ∷ 48 ∷ [])  -- W 15 4 4294967296: 15 2 0
-    ∷ (82 ∷ 9 ∷ 49 ∷ 53 ∷ 9 ∷ 52 ∷ [], 49 ∷ 54 ∷ 9 ∷ 48 ∷ 9 ∷ 52 ∷ 50 ∷ 57 ∷ 52 ∷ 57 ∷ 54 ∷ 55 ∷ 50 ∷ 57 ∷ 53 ∷ [])  -- R 15 4: 16 0 4294967295
-    ∷ (87 ∷ 9 ∷ 49 ∷ 53 ∷ 9 ∷ 52 ∷ 9 ∷ 45 ∷ [], 49 ∷ 55 ∷ 9 ∷ 48 ∷ 9 ∷ 51 ∷ [])  -- W 15 4 -: 17 0 3
-    ∷ (82 ∷ 9 ∷ 49 ∷ 53 ∷ 9 ∷ 52 ∷ [], 49 ∷ 56 ∷ 9 ∷ 48 ∷ 9 ∷ 45 ∷ [])  -- R 15 4: 18 0 -
-    ∷ (65 ∷ 9 ∷ 49 ∷ 53 ∷ [], 49 ∷ 57 ∷ 9 ∷ 48 ∷ 9 ∷ 48 ∷ [])  -- A 15: 19 0 0
+    ∷ (66 ∷ 9 ∷ lastPlace [], 57 ∷ 9 ∷ 48 ∷ 9 ∷ 50 ∷ [])  -- B lastPlace: 9 0 2
+    ∷ (82 ∷ 9 ∷ lastPlace (9 ∷ 51 ∷ []), 49 ∷ 48 ∷ 9 ∷ 48 ∷ 9 ∷ 51 ∷ 53 ∷ [])  -- R lastPlace 3: 10 0 35
+    ∷ (75 ∷ 9 ∷ lastPlace (9 ∷ 51 ∷ []), 49 ∷ 49 ∷ 9 ∷ 48 ∷ 9 ∷ 48 ∷ [])  -- K lastPlace 3: 11 0 0
+    ∷ (76 ∷ 9 ∷ lastPlace (9 ∷ 51 ∷ 53 ∷ []), 49 ∷ 50 ∷ 9 ∷ 48 ∷ 9 ∷ 49 ∷ [])  -- L lastPlace 35: 12 0 1
+    ∷ (76 ∷ 9 ∷ lastPlace (9 ∷ 53 ∷ 49 ∷ []), 49 ∷ 51 ∷ 9 ∷ 48 ∷ 9 ∷ 48 ∷ [])  -- L lastPlace 51: 13 0 0
+    ∷ (87 ∷ 9 ∷ lastPlace (9 ∷ 52 ∷ 9 ∷ 52 ∷ 50 ∷ 57 ∷ 52 ∷ 57 ∷ 54 ∷ 55 ∷ 50 ∷ 57 ∷ 53 ∷ []), 49 ∷ 52 ∷ 9 ∷ 48 ∷ 9 ∷ 50 ∷ [])  -- W lastPlace 4 2^32-1: 14 0 2
+    ∷ (87 ∷ 9 ∷ lastPlace (9 ∷ 52 ∷ 9 ∷ 52 ∷ 50 ∷ 57 ∷ 52 ∷ 57 ∷ 54 ∷ 55 ∷ 50 ∷ 57 ∷ 54 ∷ []), 49 ∷ 53 ∷ 9 ∷ 50 ∷ 9 ∷ 48 ∷ [])  -- W lastPlace 4 2^32: 15 2 0
+    ∷ (82 ∷ 9 ∷ lastPlace (9 ∷ 52 ∷ []), 49 ∷ 54 ∷ 9 ∷ 48 ∷ 9 ∷ 52 ∷ 50 ∷ 57 ∷ 52 ∷ 57 ∷ 54 ∷ 55 ∷ 50 ∷ 57 ∷ 53 ∷ [])  -- R lastPlace 4: 16 0 4294967295
+    ∷ (87 ∷ 9 ∷ lastPlace (9 ∷ 52 ∷ 9 ∷ 45 ∷ []), 49 ∷ 55 ∷ 9 ∷ 48 ∷ 9 ∷ 51 ∷ [])  -- W lastPlace 4 -: 17 0 3
+    ∷ (82 ∷ 9 ∷ lastPlace (9 ∷ 52 ∷ []), 49 ∷ 56 ∷ 9 ∷ 48 ∷ 9 ∷ 45 ∷ [])  -- R lastPlace 4: 18 0 -
+    ∷ (65 ∷ 9 ∷ lastPlace [], 49 ∷ 57 ∷ 9 ∷ 48 ∷ 9 ∷ 48 ∷ [])  -- A lastPlace: 19 0 0
     -- an aborted transaction is zero but for its txid, so the second A finds it not active
-    ∷ (65 ∷ 9 ∷ 49 ∷ 53 ∷ [], 50 ∷ 48 ∷ 9 ∷ 51 ∷ 9 ∷ 48 ∷ [])  -- A 15: 20 3 0
+    ∷ (65 ∷ 9 ∷ lastPlace [], 50 ∷ 48 ∷ 9 ∷ 51 ∷ 9 ∷ 48 ∷ [])  -- A lastPlace: 20 3 0
     -- place 16, a leading zero
-    ∷ (66 ∷ 9 ∷ 49 ∷ 54 ∷ [], 50 ∷ 49 ∷ 9 ∷ 50 ∷ 9 ∷ 48 ∷ [])  -- B 16: 21 2 0
+    ∷ (66 ∷ 9 ∷ noPlace [], 50 ∷ 49 ∷ 9 ∷ 50 ∷ 9 ∷ 48 ∷ [])  -- B noPlace: 21 2 0
     ∷ (66 ∷ 9 ∷ 48 ∷ 48 ∷ [], 50 ∷ 50 ∷ 9 ∷ 50 ∷ 9 ∷ 48 ∷ [])  -- B 00: 22 2 0
     ∷ (66 ∷ 9 ∷ 49 ∷ [], 50 ∷ 51 ∷ 9 ∷ 48 ∷ 9 ∷ 51 ∷ [])  -- B 1: 23 0 3
     -- a fault is for the next C, which uses it up even if it answers 3
     ∷ (70 ∷ 9 ∷ 51 ∷ 9 ∷ 70 ∷ 9 ∷ 48 ∷ [], 50 ∷ 52 ∷ 9 ∷ 48 ∷ 9 ∷ 48 ∷ [])  -- F 3 F 0: 24 0 0
-    ∷ (67 ∷ 9 ∷ 49 ∷ 53 ∷ 9 ∷ 108 ∷ [], 50 ∷ 53 ∷ 9 ∷ 51 ∷ 9 ∷ 48 ∷ [])  -- C 15 l: 25 3 0
+    ∷ (67 ∷ 9 ∷ lastPlace (9 ∷ 108 ∷ []), 50 ∷ 53 ∷ 9 ∷ 51 ∷ 9 ∷ 48 ∷ [])  -- C lastPlace l: 25 3 0
     ∷ (67 ∷ 9 ∷ 49 ∷ 9 ∷ 117 ∷ [], 50 ∷ 54 ∷ 9 ∷ 48 ∷ 9 ∷ 49 ∷ [])  -- C 1 u: 26 0 1
     ∷ (66 ∷ 9 ∷ 49 ∷ [], 50 ∷ 55 ∷ 9 ∷ 48 ∷ 9 ∷ 52 ∷ [])  -- B 1: 27 0 4
     -- u is unlogged, so a fault at step 5 (logged only) does not strike; l is logged
@@ -114,6 +129,17 @@ replayTable =
     ∷ (66 ∷ 66 ∷ 9 ∷ 48 ∷ [], 57 ∷ 51 ∷ 9 ∷ 50 ∷ 9 ∷ 48 ∷ [])  -- BB 0: 93 2 0
     ∷ ([], 57 ∷ 52 ∷ 9 ∷ 50 ∷ 9 ∷ 48 ∷ [])  -- (an empty line): 94 2 0
     ∷ (88 ∷ 9 ∷ 48 ∷ [], 57 ∷ 53 ∷ 9 ∷ 50 ∷ 9 ∷ 48 ∷ [])  -- X 0: 95 2 0
+    -- the last row takes a version, a lock and a posting; the number behind it is no row
+    ∷ (66 ∷ 9 ∷ 54 ∷ [], 57 ∷ 54 ∷ 9 ∷ 48 ∷ 9 ∷ 49 ∷ 51 ∷ [])  -- B 6: 96 0 13
+    ∷ (82 ∷ 9 ∷ 54 ∷ 9 ∷ lastRow [], 57 ∷ 55 ∷ 9 ∷ 48 ∷ 9 ∷ 45 ∷ [])  -- R 6 lastRow: 97 0 -
+    ∷ (82 ∷ 9 ∷ 54 ∷ 9 ∷ noRow [], 57 ∷ 56 ∷ 9 ∷ 50 ∷ 51 ∷ 9 ∷ 48 ∷ [])  -- R 6 noRow: 98 23 0
+    ∷ (87 ∷ 9 ∷ 54 ∷ 9 ∷ lastRow (9 ∷ 55 ∷ []), 57 ∷ 57 ∷ 9 ∷ 48 ∷ 9 ∷ 51 ∷ [])  -- W 6 lastRow 7: 99 0 3
+    ∷ (87 ∷ 9 ∷ 54 ∷ 9 ∷ noRow (9 ∷ 55 ∷ []), 49 ∷ 48 ∷ 48 ∷ 9 ∷ 50 ∷ 51 ∷ 9 ∷ 48 ∷ [])  -- W 6 noRow 7: 100 23 0
+    ∷ (67 ∷ 9 ∷ 54 ∷ 9 ∷ 117 ∷ [], 49 ∷ 48 ∷ 49 ∷ 9 ∷ 48 ∷ 9 ∷ 56 ∷ [])  -- C 6 u: 101 0 8
+    ∷ (66 ∷ 9 ∷ 54 ∷ [], 49 ∷ 48 ∷ 50 ∷ 9 ∷ 48 ∷ 9 ∷ 49 ∷ 52 ∷ [])  -- B 6: 102 0 14
+    ∷ (75 ∷ 9 ∷ 54 ∷ 9 ∷ noRow [], 49 ∷ 48 ∷ 51 ∷ 9 ∷ 50 ∷ 51 ∷ 9 ∷ 48 ∷ [])  -- K 6 noRow: 103 23 0
+    ∷ (75 ∷ 9 ∷ 54 ∷ 9 ∷ lastRow [], 49 ∷ 48 ∷ 52 ∷ 9 ∷ 48 ∷ 9 ∷ 48 ∷ [])  -- K 6 lastRow: 104 0 0
+    ∷ (76 ∷ 9 ∷ 54 ∷ 9 ∷ 55 ∷ [], 49 ∷ 48 ∷ 53 ∷ 9 ∷ 48 ∷ 9 ∷ 49 ∷ [])  -- L 6 7: 105 0 1
     ∷ []
 
 -- each with a line feed; the last line, a V, has none
@@ -121,7 +147,7 @@ unfoldable pub tableScript : Bytes
 tableScript = flat (λ r. r .0 ++ 10 ∷ []) replayTable ++ 86 ∷ []
 
 unfoldable pub tableAnswers : Bytes
-tableAnswers = flat (λ r. r .1 ++ 10 ∷ []) replayTable ++ 57 ∷ 54 ∷ 9 ∷ 48 ∷ 9 ∷ 48 ∷ 10 ∷ []
+tableAnswers = flat (λ r. r .1 ++ 10 ∷ []) replayTable ++ 49 ∷ 48 ∷ 54 ∷ 9 ∷ 48 ∷ 9 ∷ 48 ∷ 10 ∷ []
 
 pub replay-table : replayText tableScript ≡ tableAnswers
 unfolding replayTable tableScript tableAnswers computing

@@ -116,7 +116,7 @@ module _ (S : Store) (x : Tx) (ok : Ready S x) where
       told-by-rows newPostings (headPostings (S .key) (S .has) 0 (newHeads (finals x) (S .heads))) new-rising
       (heads-rising (S .key) (S .has) 0 (newHeads (finals x) (S .heads))) new-member
 
-  -- "at most 128", on the way too
+  -- at most the limit, on the way too
   new-length : length (intoAll (destinations (changes S x)) (postingsOf S)) ≤ postingLimit
   new-length = omega (arith, intoAll-length (destinations (changes S x)) (postingsOf S), room S x ok)
 

@@ -43,7 +43,7 @@ form-parts : (S : Store) → postingsInForm S ≡ true → (rising 0 (postingsOf
 unfolding postingsInForm
 form-parts S h = let a = every-cons _ _ (every-cons _ _ h .1) in (a .0, every-cons _ _ (a .1) .0)
 
--- "at most 128"
+-- at most the limit
 pub form-short : (S : Store) → postingsInForm S ≡ true → length (postingsOf S) ≤ postingLimit
 unfolding postingsInForm postingsOf
 form-short S h =

@@ -82,7 +82,7 @@ head-differs key has heads k r (w ∷ ws) a h =
     (λ e. head-differs key has heads k r ws (b .1) (rw e at h))
 
 module _ (S : Store) (x : Tx) (ok : Ready S x) where
-  -- what the premises say of the final writes: "rows below 64"
+  -- what the premises say of the final writes: "rows below" the limit
   pub rows-fit : all (λ w. ltb (w .row .0) rows) (finals x) ≡ true
   unfolding fit finals
   rows-fit =

@@ -115,7 +115,7 @@ pub fn chains_ok<'a>(
     true
 }
 
-// "a used slot off every chain has an unfinished xmin, xmax 0, next at most 256": the slot at place i.
+// "a used slot off every chain has an unfinished xmin, xmax 0, next at most" the last slot: the slot at place i.
 fn off_ok<'a>(
     xmin: &'a [u64; SlotPtr::PLACES],
     xmax: &'a [u64; SlotPtr::PLACES],

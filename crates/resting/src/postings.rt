@@ -50,7 +50,7 @@ fn no_posting_from(postings: &[u64; Store::POSTINGS], n: usize) -> bool
     zeros_from(postings, n)
 }
 
-// "kept rising, packed, unique, at most 128"
+// "kept rising, packed, unique, at most" the limit
 pub fn postings_in_form(postings: &[u64; Store::POSTINGS], count: usize) -> bool
     ensures { λ r. ⌜ r ≡ postingsForm (now (postings .entry)) count ⌝ }
 {

@@ -32,7 +32,7 @@ chainOk xmin xmax fin (p ∷ l) =
     ((eqb (getD xmax p 0) 0 || not (fin (getD xmax p 0))) && tailOk xmin xmax fin (getD xmax p 0) (p ∷ l))
     (eqb (getD xmax p 0) 0 && nextOk xmin xmax fin (getD xmin p 0) l)
 
--- "a used slot off every chain has an unfinished xmin, xmax 0, next at most 256"
+-- "a used slot off every chain has an unfinished xmin, xmax 0, next at most" the last slot
 abbrev pub offOk : List ℕ → List ℕ → List ℕ → (ℕ → Bool) → List ℕ → ℕ → Bool
 offOk xmin xmax next fin seen p =
     on seen p || (not (fin (getD xmin p 0)) && (eqb (getD xmax p 0) 0 && leb (getD next p 0) slots))

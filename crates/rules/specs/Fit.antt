@@ -26,11 +26,12 @@ countsFit x = every (
     ∷ allZero (drop (x .«savepoint_count») (x .savepoints))
     ∷ [])
 
--- "rows below 64; read pointers 1 to 256"
+-- "rows below" the limit; "read pointers 1 to" the last slot
 abbrev pub readFit : ReadRecord → Bool
 readFit r = every (ltb (r .row .0) rows ∷ leb 1 (r .ptr .0) ∷ leb (r .ptr .0) slots ∷ [])
 
--- "rows below 64; bases 0 to 256; each new pointer .. used, off every chain, with xmin the txid, next the base" (a write has no field for its value)
+-- "rows below" the limit; "bases 0 to" the last slot; "each new pointer .. used, off every chain, with xmin the txid, next the base"
+-- (a write has no field for its value)
 abbrev pub writeFit : List ℕ → List ℕ → List ℕ → ℕ → Write → Bool
 writeFit xmin next seen t w = every (
     ltb (w .row .0) rows

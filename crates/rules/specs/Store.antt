@@ -55,7 +55,7 @@ rowOf c = c % rows
 unfoldable pub postingsOf : Store → List ℕ
 postingsOf S = take (S .«posting_count») (S .postings)
 
--- "kept rising, packed, unique, at most 128"; the keys are of 32 bits
+-- "kept rising, packed, unique, at most" the limit; the keys are of 32 bits
 unfoldable pub postingsInForm : Store → Bool
 postingsInForm S = every (
     leb (S .«posting_count») postingLimit

@@ -1,10 +1,10 @@
--- "Store and transaction", computed at the paper's numbers: the limits, and which stripes and partitions some keys and rows have.
+-- "Store and transaction", computed at the paper's stripes and partitions: the limits, and which stripes and partitions some keys and rows have.
 use mathlib.Core.Path.{_≡_, refl}
 use mathlib.Core.List.{[], _∷_, map}
 use Rattle.rules.specs.Store.{stripeOf, partitionOf}
 use Rattle.statements.specs.StoreWords.{PaperNumbers}
 
--- "64 row ids (0 to 63)", "256 slots, 1 to 256", ..
+-- rows, slots, postings, ..
 pub paper-numbers : PaperNumbers
 paper-numbers = record {
   rowIds = refl;

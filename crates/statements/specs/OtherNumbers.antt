@@ -37,14 +37,14 @@ beginLines S =
     ∷ line 22 (ClockAtEnd Open) (leb clockEnd (S .clock))
     ∷ []
 
--- "row over 63; no room for a new read"; when there is none, in words: `ReadTooMany` (ReadWords), by `read-full` (call_laws)
+-- a row over the last; "no room for a new read"; when there is none, in words: `ReadTooMany` (ReadWords), by `read-full` (call_laws)
 abbrev pub readLines : Store → Tx → ℕ → List Line
 readLines S x r = healthyLines S x (
     line 23 (RowTooHigh Open) (leb rows r)
     ∷ line 24 (ReadsFull Open) (ltb readLimit (length (recordRead S x r (readsOf x))))
     ∷ [])
 
--- "row over 63; writes full; no free slot"
+-- a row over the last; "writes full; no free slot"
 abbrev pub writeLines : Store → Tx → ℕ → List Line
 writeLines S x r = healthyLines S x (
     line 23 (RowTooHigh Open) (leb rows r)

@@ -170,11 +170,11 @@ pub record Taken (S T : Store) (p t q : ℕ) (v : Value) : Type 0 where
 
 -- NUMBERS OF THE PAPER
 
--- the limits, in this one place as the paper's numbers: "64 row ids (0 to 63)", "256 slots, 1 to 256" (place 0 is none), ..
+-- the limits, in this one place as the paper's numbers; a place more than slots, since place 0 is none
 pub record PaperNumbers : Type 0 where
   pub rowIds : rows ≡ 64
   pub lastSlot : slots ≡ 256
-  pub slotPlaces : places ≡ 257
+  pub slotPlaces : places ≡ suc slots
   pub postings : postingLimit ≡ 128
   pub stripesAre : stripes ≡ 16
   pub partitionsAre : partitions ≡ 16
