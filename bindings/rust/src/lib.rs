@@ -28,8 +28,9 @@
 //! # Stack
 //!
 //! A replay has no heap and no state between calls: the store and the transactions are on the caller's
-//! stack, some 250 KB at the deepest call, however long the script (measured on threads of given
-//! sizes). A thread of 512 KB is enough (a test runs on one); Rust's threads have 2 MB.
+//! stack, some 393 KB at the deepest call, however long the script (measured on threads of given
+//! sizes: `examples/stack.rs`). A Rust thread of default size, 2 MB, does, and so does one of 512 KB:
+//! a test runs on each.
 //!
 //! # What is trusted
 //!

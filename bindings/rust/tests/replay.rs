@@ -23,9 +23,8 @@ fn the_example() {
     assert_eq!(replay(SCRIPT), ANSWERS);
 }
 
-/// What the gate runs the replay program on, one script after the other, and what it must write.
-#[test]
-fn the_program_s_scripts() {
+/// The answers to what the gate runs the replay program on, one script after the other.
+fn the_program_s_answers() -> Vec<u8> {
     let names = String::from_utf8(file("crates/replay/args")).unwrap();
     let mut answers = Vec::new();
     for name in names.lines() {
@@ -35,7 +34,12 @@ fn the_program_s_scripts() {
         };
         answers.extend(replay(&script));
     }
-    assert!(answers == file("crates/replay/stdout"));
+    answers
+}
+
+#[test]
+fn the_program_s_scripts() {
+    assert!(the_program_s_answers() == file("crates/replay/stdout"));
 }
 
 #[test]
@@ -210,9 +214,20 @@ fn each_replay_starts_from_the_empty_store_on_any_thread() {
     }
 }
 
+/// The scripts fill every slot, and a commit among them makes all the stores that one can.
+fn all_is_answered_on(kind: thread::Builder) {
+    let thread = kind.spawn(the_program_s_answers).expect("a thread");
+    let answers = thread.join().expect("a replay doesn't panic");
+    assert!(answers == file("crates/replay/stdout"));
+}
+
+/// 2 MB, unless RUST_MIN_STACK says otherwise.
+#[test]
+fn a_thread_of_default_size_is_enough() {
+    all_is_answered_on(thread::Builder::new());
+}
+
 #[test]
 fn half_a_megabyte_of_stack_is_enough() {
-    let small = thread::Builder::new().stack_size(512 * 1024);
-    let thread = small.spawn(|| replay(SCRIPT)).expect("a thread");
-    assert_eq!(thread.join().expect("a replay doesn't panic"), ANSWERS);
+    all_is_answered_on(thread::Builder::new().stack_size(512 * 1024));
 }

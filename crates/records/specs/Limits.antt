@@ -4,21 +4,21 @@ use mathlib.Core.List.{List}
 use Prim.Native.Nat.{ℕ, suc, _+_}
 use lib.ListN.{replicate}
 
--- "64 row ids (0 to 63)"
+-- row ids, from 0; raised by document 02, wish 5
 abbrev pub rows : ℕ
-rows = 64
+rows = 128
 
--- "256 slots, 1 to 256"
+-- slots, from 1; raised by the same
 abbrev pub slots : ℕ
-slots = 256
+slots = 512
 
 -- slot p stands at place p, and place 0 is no slot
 abbrev pub places : ℕ
 places = suc slots
 
--- "at most 128" postings
+-- postings; raised by the same
 abbrev pub postingLimit : ℕ
-postingLimit = 128
+postingLimit = 256
 
 -- "Key k has stripe k mod 16; row id r has partition r mod 16."
 abbrev pub stripes : ℕ

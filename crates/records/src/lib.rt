@@ -19,7 +19,7 @@ impl Txid {
 }
 
 impl RowId {
-    pub const ROWS: usize = 64;
+    pub const ROWS: usize = 128;
 
     pub const PARTITIONS: usize = 16;
 }
@@ -27,7 +27,7 @@ impl RowId {
 impl SlotPtr {
     pub const NULL: SlotPtr = SlotPtr(0);
 
-    pub const SLOTS: usize = 256;
+    pub const SLOTS: usize = 512;
 
     // slot p stands at place p of an array; place 0 is no slot
     pub const PLACES: usize = SlotPtr::SLOTS + 1;
@@ -63,7 +63,7 @@ pub struct Store {
 }
 
 impl Store {
-    pub const POSTINGS: usize = 128;
+    pub const POSTINGS: usize = 256;
 
     pub const STRIPES: usize = 16;
 

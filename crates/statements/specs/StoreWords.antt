@@ -172,10 +172,10 @@ pub record Taken (S T : Store) (p t q : ℕ) (v : Value) : Type 0 where
 
 -- the limits, in this one place as the paper's numbers; a place more than slots, since place 0 is none
 pub record PaperNumbers : Type 0 where
-  pub rowIds : rows ≡ 64
-  pub lastSlot : slots ≡ 256
+  pub rowIds : rows ≡ 128
+  pub lastSlot : slots ≡ 512
   pub slotPlaces : places ≡ suc slots
-  pub postings : postingLimit ≡ 128
+  pub postings : postingLimit ≡ 256
   pub stripesAre : stripes ≡ 16
   pub partitionsAre : partitions ≡ 16
   pub actives : activeLimit ≡ 16
