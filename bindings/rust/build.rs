@@ -43,24 +43,21 @@ fn archive_dir() -> Result<PathBuf, String> {
     Ok(dir)
 }
 
-/// Writes the table's texts as a list of pairs, in the order of their numbers.
+/// Writes the table's rows as a list: number, meaning, what to do, in the order of their numbers.
 fn write_numbers() -> Result<(), String> {
     let page = Path::new(env!("CARGO_MANIFEST_DIR")).join("../../docs/NUMBERS.md");
     println!("cargo::rerun-if-changed={}", page.display());
     let text = fs::read_to_string(&page).map_err(|why| format!("{}: {why}", page.display()))?;
     let rows: Vec<_> = text.lines().filter_map(row).collect();
-    if rows.len() != 29 || (0..).zip(&rows).any(|(number, row)| row.0 != number) {
+    let rising = rows.windows(2).all(|two| two[0].0 < two[1].0);
+    if rows.first().is_none_or(|row| row.0 != 0) || !rising {
         return Err(format!(
-            "{} doesn't have a row for each number from 0 to 28, in order",
+            "{} doesn't have a row for each number, rising from 0",
             page.display()
         ));
     }
-    let pairs: Vec<_> = rows
-        .iter()
-        .map(|(_, meaning, advice)| (meaning, advice))
-        .collect();
     let out = Path::new(&env::var_os("OUT_DIR").expect("cargo names a folder")).join("numbers.rs");
-    fs::write(&out, format!("&{pairs:?}")).map_err(|why| format!("{}: {why}", out.display()))
+    fs::write(&out, format!("&{rows:?}")).map_err(|why| format!("{}: {why}", out.display()))
 }
 
 /// A row `| number | meaning | what to do |` of the page's table.

@@ -11,7 +11,7 @@ use crate::Refusal;
 pub struct Answer {
     /// The line's number in the script, from 1.
     pub line: u64,
-    /// 0 where the call did what was asked, else the refusal's number, 1 to 28.
+    /// 0 where the call did what was asked, else the refusal's number.
     pub number: u8,
     /// What the line asks for: the txid (B), the key (R; none where the row shows none), the slot (W),
     /// the number of rows (L), the number of stores (C, refused or not); 0 for any other line or refusal.
@@ -23,11 +23,11 @@ impl Answer {
     ///
     /// # Panics
     ///
-    /// Where `number` is above 28, which no replay answers.
+    /// Where `number` is none of `docs/NUMBERS.md`, which no replay answers.
     pub fn result(&self) -> Result<Option<u64>, Refusal> {
         match self.number {
             0 => Ok(self.value),
-            number => Err(Refusal::new(number).expect("a number is at most 28")),
+            number => Err(Refusal::new(number).expect("a number has a row")),
         }
     }
 }
@@ -77,7 +77,7 @@ impl Iterator for Answers {
             .field(b'\t')
             .parse()
             .expect("a line's number has 64 bits");
-        let number = self.field(b'\t').parse().expect("a number is at most 28");
+        let number = self.field(b'\t').parse().expect("a number has 8 bits");
         let value = match self.field(b'\n') {
             "-" => None,
             digits => Some(digits.parse().expect("a value has 64 bits")),

@@ -3,17 +3,17 @@
 use std::error::Error;
 use std::fmt;
 
-/// What happened and what to do next, for each number from 0.
-static TABLE: &[(&str, &str)] = include!(concat!(env!("OUT_DIR"), "/numbers.rs"));
+/// What happened and what to do next, for each number that a call answers, rising from 0.
+static TABLE: &[(u8, &str, &str)] = include!(concat!(env!("OUT_DIR"), "/numbers.rs"));
 
-/// Why a call was refused: a number from 1 to 28, with the texts of `docs/NUMBERS.md`.
+/// Why a call was refused: a number of `docs/NUMBERS.md` from 1 on, with its texts there.
 #[derive(Clone, Copy, Debug, PartialEq, Eq, Hash)]
 pub struct Refusal(u8);
 
 impl Refusal {
     /// The refusal of that number; none for 0, which is no refusal, and for a number that no call answers.
     pub fn new(number: u8) -> Option<Refusal> {
-        (number != 0 && usize::from(number) < TABLE.len()).then_some(Refusal(number))
+        (number != 0 && place(number).is_some()).then_some(Refusal(number))
     }
 
     /// Its number.
@@ -23,13 +23,22 @@ impl Refusal {
 
     /// What happened, and what is left of table and transaction.
     pub fn meaning(self) -> &'static str {
-        TABLE[usize::from(self.0)].0
+        self.row().1
     }
 
     /// What to do next.
     pub fn advice(self) -> &'static str {
-        TABLE[usize::from(self.0)].1
+        self.row().2
     }
+
+    fn row(self) -> &'static (u8, &'static str, &'static str) {
+        &TABLE[place(self.0).expect("a refusal has a row")]
+    }
+}
+
+/// Where a number's row stands.
+fn place(number: u8) -> Option<usize> {
+    TABLE.binary_search_by_key(&number, |row| row.0).ok()
 }
 
 impl fmt::Display for Refusal {

@@ -182,11 +182,21 @@ fn a_result_is_the_value_or_the_refusal() {
     assert_eq!(results[2].unwrap_err().number(), 23);
 }
 
+/// A key is a minute of the year: the last is written, the next refused.
+#[test]
+fn an_impossible_minute_is_refused() {
+    let script = b"B\t0\nW\t0\t3\t527040\nL\t0\t527040\nW\t0\t3\t527039\nL\t0\t527039";
+    let told: Vec<_> = answers(script)
+        .map(|answer| (answer.number, answer.value))
+        .collect();
+    assert_eq!(told[1..], [(31, Some(0)), (31, Some(0)), (0, Some(1)), (0, Some(1))]);
+}
+
 /// Each number's texts are those of the page, cell by cell.
 #[test]
 fn the_refusals_are_those_of_the_page() {
     let page = String::from_utf8(file("docs/NUMBERS.md")).unwrap();
-    for number in 1..=28 {
+    for number in (1..=28).chain([31]) {
         let refusal = Refusal::new(number).expect("a refusal");
         let row = format!(
             "| {number} | {} | {} |",
@@ -202,7 +212,10 @@ fn the_refusals_are_those_of_the_page() {
         );
     }
     assert_eq!(Refusal::new(0), None);
+    // the numbers of calls that are not built
     assert_eq!(Refusal::new(29), None);
+    assert_eq!(Refusal::new(30), None);
+    assert_eq!(Refusal::new(32), None);
     assert_eq!(Refusal::new(255), None);
 }
 

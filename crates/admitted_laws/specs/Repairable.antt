@@ -6,11 +6,11 @@ use Prim.Native.Nat.{ℕ, _≤_, _<_}
 use native.Mathlib.Omega.{arith}
 use lib.ListN.{length, getD, length-replicate, List·getD-eq-default}
 use lib.Dec.{eqb, ltb, leb}
-use borrow.Author.Tests.{eqb-true, eq-eqb, ltb-true, ltb-false, lt-ltb, leb-true, le-leb, not-true}
-use Rattle.records.specs.Limits.{slots, places, noMarks}
+use borrow.Author.Tests.{eqb-true, eqb-false, eq-eqb, ne-eqb, ltb-true, ltb-false, lt-ltb, leb-true, le-leb, not-true}
+use Rattle.records.specs.Limits.{slots, places, lastMinute, noMarks}
 use Rattle.rules.specs.Lists.{all, memb, eachOr, isZero, nonzero}
 use Rattle.rules.specs.Types.{Store}
-use Rattle.rules.specs.Store.{used, usedSlots, activeTxids, activeInForm, slotsInForm}
+use Rattle.rules.specs.Store.{used, usedSlots, valueAt, activeTxids, activeInForm, slotsInForm}
 use Rattle.rules.specs.Chains.{chainFrom, walk, on}
 use Rattle.rules.specs.Admitted.{finished, chainOk, offOk, repairable}
 use Rattle.basic_laws.specs.Cases.{by, clash, or-true, or-left, or-right, and-true, every-each, cons-every, every-none}
@@ -20,6 +20,7 @@ use Rattle.basic_laws.specs.Sound.{walk-is, rows-sound}
 use Rattle.basic_laws.specs.Chained.{Chains, Chained, walk-sound, walk-complete, chained-from}
 use Rattle.basic_laws.specs.Check.{Good, chain-ok, ok-chain}
 use Rattle.statements.specs.Sized.{Sized}
+use Rattle.statements.specs.StoreWords.{storedKey}
 use Rattle.basic_laws.specs.TestParts.{slots-parts, parts-slots, repairable-parts, parts-repairable}
 use Rattle.basic_laws.specs.Places.{blank-at, at-blank, zero-from, from-zero, Rising, rising-is, is-rising}
 
@@ -31,11 +32,12 @@ pub record Free (xmax next : List ℕ) (has locked : List Bool) (owner : List �
   pub unlocked : getD locked p false ≡ false
   pub unowned : getD owner p 0 ≡ 0
 
--- slots in their form: place 0 is no slot; a free slot is all zero; "an absent key is stored as 0"
+-- slots in their form: place 0 is no slot; a free slot is all zero; "an absent key is stored as 0"; no used slot holds a key over the last minute
 pub record SlotForm (xmin xmax next key : List ℕ) (has locked : List Bool) (owner : List ℕ) : Type 0 where
   pub first : getD xmin 0 0 ≡ 0
   pub free : (p : ℕ) → getD xmin p 0 ≡ 0 → Free xmax next has locked owner p
   pub absent : (p : ℕ) → getD has p false ≡ false → getD key p 0 ≡ 0
+  pub minute : (p : ℕ) → 0 < getD xmin p 0 → getD key p 0 ≤ lastMinute
 
 -- "Active txids: .. rising, zero after them"; "from 1 to below the clock"
 pub record ActiveForm (act : List ℕ) (clock : ℕ) : Type 0 where
@@ -103,6 +105,10 @@ form-slots S h =
         unowned = blank-at nonzero isZero 0 0 is-zero (S .xmin) (S .owner) (P .owner) p n;
       };
       absent = λ p n. blank-at (λ b. b) isZero false 0 is-zero (S .has) (S .key) (P .key) p n;
+      minute = λ p u. by (ltb p (length (S .key)))
+          (λ e. leb-true (getD (S .key) p 0) lastMinute (each-or isZero (λ k. leb k lastMinute) (S .xmin) (S .key) 0 0 (P .minutes) p
+          (ltb-true p (length (S .key)) e) (ne-eqb (getD (S .xmin) p 0) 0 (λ z. omega (arith, z)))))
+          (λ e. rw (List·getD-eq-default (S .key) 0 (ltb-false p (length (S .key)) e)) (omega arith));
     }
 
 pub slots-form : (S : Store) → Sized S → SlotForm (S .xmin) (S .xmax) (S .next) (S .key) (S .has) (S .locked) (S .owner) → slotsInForm S ≡ true
@@ -117,7 +123,18 @@ slots-form S z F =
       locked = at-blank nonzero not 0 false none-is (S .xmin) (S .locked) (z .locked ∙ sym (z .xmin)) (λ p n. free p n .unlocked);
       owner = at-blank nonzero isZero 0 0 zero-is (S .xmin) (S .owner) (z .owner ∙ sym (z .xmin)) (λ p n. free p n .unowned);
       key = at-blank (λ b. b) isZero false 0 zero-is (S .has) (S .key) (z .key ∙ sym (z .has)) (λ p n. F .absent p n);
+      minutes = or-each isZero (λ k. leb k lastMinute) (S .xmin) (S .key) 0 0 (omega (arith, z .key, z .xmin))
+          (λ p lt n. le-leb (getD (S .key) p 0) lastMinute (F .minute p (omega (arith, eqb-false (getD (S .xmin) p 0) 0 n))));
     })
+
+-- so every value is a minute of the year or none
+pub value-minute : {xmin xmax next key : List ℕ} {has locked : List Bool} {owner : List ℕ} → SlotForm xmin xmax next key has locked owner
+    → (p : ℕ) → storedKey (valueAt key has p) ≤ lastMinute
+value-minute {xmin} {key = key} {has} F p = by (getD has p false)
+    (λ e. rw e (by (eqb (getD xmin p 0) 0)
+    (λ z. clash e (F .free p (eqb-true (getD xmin p 0) 0 z) .empty))
+    (λ n. F .minute p (omega (arith, eqb-false (getD xmin p 0) 0 n)))))
+    (λ e. rw e (omega arith))
 
 -- the active list in its form, from the test and back
 form-active : (act : List ℕ) (clock : ℕ) → activeInForm act clock ≡ true → ActiveForm act clock

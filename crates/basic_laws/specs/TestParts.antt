@@ -5,7 +5,7 @@ use mathlib.Core.List.{List}
 use Prim.Native.Nat.{ℕ}
 use lib.ListN.{getD}
 use lib.Dec.{eqb, ltb, leb}
-use Rattle.records.specs.Limits.{rows, slots, places}
+use Rattle.records.specs.Limits.{rows, slots, places, lastMinute}
 use Rattle.rules.specs.Types.{Store, Tx, Write}
 use Rattle.rules.specs.Lists.{all, eachOr, same, allZero, isZero, nonzero, nonFalling}
 use Rattle.rules.specs.Store.{used, usedSlots, slotsInForm, postingsOf, postingsInForm, activeInForm}
@@ -24,6 +24,7 @@ pub record SlotsInForm (S : Store) : Type 0 where
   pub locked : eachOr nonzero not (S .xmin) (S .locked) ≡ true
   pub owner : eachOr nonzero isZero (S .xmin) (S .owner) ≡ true
   pub key : eachOr (λ b. b) isZero (S .has) (S .key) ≡ true
+  pub minutes : eachOr isZero (λ k. leb k lastMinute) (S .xmin) (S .key) ≡ true
 
 -- (the parts of a test that holds, and a test of parts that hold; so for each of them)
 pub slots-parts : (S : Store) → slotsInForm S ≡ true → SlotsInForm S
@@ -38,6 +39,7 @@ slots-parts S h =
       locked = p .1 .1 .1 .1 .0;
       owner = p .1 .1 .1 .1 .1 .0;
       key = p .1 .1 .1 .1 .1 .1 .0;
+      minutes = p .1 .1 .1 .1 .1 .1 .1 .0;
     }
 
 pub parts-slots : (S : Store) → SlotsInForm S → slotsInForm S ≡ true
@@ -45,7 +47,9 @@ unfolding slotsInForm
 parts-slots S P =
     cons-every _ _ (P .first)
     (cons-every _ _ (P .xmax)
-    (cons-every _ _ (P .next) (cons-every _ _ (P .has) (cons-every _ _ (P .locked) (cons-every _ _ (P .owner) (cons-every _ _ (P .key) every-none))))))
+    (cons-every _ _ (P .next)
+    (cons-every _ _ (P .has)
+    (cons-every _ _ (P .locked) (cons-every _ _ (P .owner) (cons-every _ _ (P .key) (cons-every _ _ (P .minutes) every-none)))))))
 
 -- a repairable store
 pub record Repairable (S : Store) : Type 0 where

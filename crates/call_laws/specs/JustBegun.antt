@@ -8,7 +8,7 @@ use native.Mathlib.Omega.{arith}
 use lib.ListN.{length, getD, length-append, length-map, List·getD-map}
 use lib.Dec.{eqb, ltb, leb}
 use borrow.Author.Tests.{eqb-false, ne-eqb, ltb-true, ltb-false, lt-ltb, le-ltb, lt-leb, not-true}
-use Rattle.records.specs.Limits.{rows, slots, stripes, activeLimit, readLimit, clockEnd}
+use Rattle.records.specs.Limits.{rows, slots, stripes, activeLimit, readLimit, clockEnd, lastMinute}
 use Rattle.rules.specs.Lists.{any, memb, pad, firstOf, rising}
 use Rattle.rules.specs.Types.{Store, Tx, ReadRecord, RowId, Value, Absent, Key, Seen}
 use Rattle.rules.specs.Store.{sameValue, carries, activeTxids}
@@ -34,6 +34,7 @@ use Rattle.statements.specs.OtherNumbers.{beginLines, readLines, lookupLines}
 use Rattle.posting_laws.specs.RestingPostings.{exact}
 use Rattle.posting_laws.specs.HeadsTold.{value-same, carries-key}
 use Rattle.posting_laws.specs.LookupFinds.{candidate-rows}
+use Rattle.admitted_laws.specs.Repairable.{value-minute}
 use Rattle.admitted_laws.specs.Resting.{Rests, rests}
 use Rattle.recovery_laws.specs.Unfinished.{active-in, active-unfinished}
 use Rattle.sentences.specs.FirstLine.{applies-none}
@@ -253,27 +254,50 @@ module _ (T : Store) (z : Sized T) (rest : resting T ≡ true) (sound : T .poiso
           (λ r m. candidate-says r .0 m .0) some-head (λ r m. refl),
     ))
 
-    -- the tests that come before 24 are passed
+    -- no row has a key over the last minute
+    in-year : 0 < length (candidates (entered T) (begun T) k) → k ≤ lastMinute
+    in-year some =
+        let r = first-of (candidates (entered T) (begun T) k) some in
+        rw (candidate-says (r .0) .0 (r .1) .1) at (value-minute (R .mends .slots) (getD (T .heads) (r .0) 0))
+      where
+        first-of : (l : List ℕ) → 0 < length l → (r : ℕ) × (memb r l ≡ true)
+        first-of [] lt = absurd (omega arith)
+        first-of (r ∷ l) lt = (r, mem-here r l)
+
+    -- the tests that come before 31 are passed
     early-tests : None (not (resting (entered T)) ∷ not (fit (entered T) (begun T))
         ∷ not (memb (begun T .txid .0) (activeTxids (entered T .active))) ∷ T .poisoned ∷ [])
     early-tests = (rw (keeps .rests), (rw (keeps .fits), (rw (keeps .active), (sound, tt))))
+
+    -- 31 exactly where the key is no minute
+    no-minute : (numberOf (lookup (entered T) (begun T) k .refusal) ≡ 31) ↔ (lastMinute < k)
+    no-minute =
+        let t = lookup-told (entered T) (begun T) k .2 .2 .2 .2 .0 in (
+          λ h. ltb-true lastMinute k (t .0 h .1),
+          λ lt. t .1 (early-tests, lt-ltb lastMinute k lt),
+        )
+
+    -- a minute passes that test too
+    later-tests : k ≤ lastMinute → None (not (resting (entered T)) ∷ not (fit (entered T) (begun T))
+        ∷ not (memb (begun T .txid .0) (activeTxids (entered T .active))) ∷ T .poisoned ∷ ltb lastMinute k ∷ [])
+    later-tests le = let e = early-tests in (e .0, (e .1 .0, (e .1 .1 .0, (e .1 .1 .1 .0, (le-ltb lastMinute k le, tt)))))
 
     -- 24 exactly where the rows are too many
     too-many : (numberOf (lookup (entered T) (begun T) k .refusal) ≡ 24) ↔ (readLimit < length (candidates (entered T) (begun T) k))
     too-many =
         let n = length (recordReads (entered T) (begun T) (candidates (entered T) (begun T) k) (readsOf (begun T))) in
-        let t = lookup-told (entered T) (begun T) k .2 .2 .2 .2 .0 in (
+        let t = lookup-told (entered T) (begun T) k .2 .2 .2 .2 .2 .0 in (
           λ h. omega (arith, as-many, ltb-true readLimit n (t .0 h .1)),
-          λ lt. t .1 (early-tests, lt-ltb readLimit n (omega (arith, as-many))),
+          λ lt. t .1 (later-tests (in-year (omega arith)), lt-ltb readLimit n (omega (arith, as-many))),
         )
 
     -- else it is accepted
-    enough : length (candidates (entered T) (begun T) k) ≤ readLimit → numberOf (lookup (entered T) (begun T) k .refusal) ≡ 0
-    enough le =
+    enough : k ≤ lastMinute → length (candidates (entered T) (begun T) k) ≤ readLimit → numberOf (lookup (entered T) (begun T) k .refusal) ≡ 0
+    enough minute le =
         let n = length (recordReads (entered T) (begun T) (candidates (entered T) (begun T) k) (readsOf (begun T))) in
-        let e = early-tests in
+        let e = later-tests minute in
         applies-none (lookup (entered T) (begun T) k .refusal) (lookupLines (entered T) (begun T) k) (lookup-told (entered T) (begun T) k)
-        (e .0, (e .1 .0, (e .1 .1 .0, (e .1 .1 .1 .0, (le-ltb readLimit n (omega (arith, as-many)), tt)))))
+        (e .0, (e .1 .0, (e .1 .1 .0, (e .1 .1 .1 .0, (e .1 .1 .1 .1 .0, (le-ltb readLimit n (omega (arith, as-many)), tt))))))
 
     -- which stamp it can't see
     unseen-says : (t : ℕ) → ((not (eqb t 0) && not (sees (begun T) t)) ≡ true) ↔ Unseen T t
@@ -295,11 +319,11 @@ module _ (T : Store) (z : Sized T) (rest : resting T ≡ true) (sound : T .poiso
         )
 
     -- the answer, where it is accepted
-    answers : length (candidates (entered T) (begun T) k) ≤ readLimit
+    answers : k ≤ lastMinute → length (candidates (entered T) (begun T) k) ≤ readLimit
         → Answered T k (candidates (entered T) (begun T) k) (lookup (entered T) (begun T) k)
     unfolding begun
-    answers le =
-        let h = enough le in
+    answers minute le =
+        let h = enough minute le in
         let l = candidates (entered T) (begun T) k in
         let short = rising-short rows l (candidates-rise (entered T) (begun T) k)
         (mem-all (λ r. ltb r rows) l (λ r m. lt-ltb r rows (candidate-says r .0 m .0))) in
@@ -338,5 +362,6 @@ store-shows T z rest sound few early value same =
         },
         answers T z rest sound few early k,
         too-many T z rest sound few early k,
+        no-minute T z rest sound few early k,
       );
     }

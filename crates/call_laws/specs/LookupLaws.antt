@@ -8,14 +8,15 @@ use Prim.Native.Nat.{ℕ, _≤_, _<_}
 use native.Mathlib.Omega.{arith}
 use lib.ListN.{length, length-map}
 use lib.Dec.{eqb, ltb}
-use borrow.Author.Tests.{eqb-false, ne-eqb, ltb-true, lt-ltb, le-leb, not-true}
-use Rattle.records.specs.Limits.{rows, readLimit, indexReadLimit}
+use borrow.Author.Tests.{eqb-false, ne-eqb, ltb-true, ltb-false, lt-ltb, le-ltb, le-leb, not-true}
+use Rattle.records.specs.Limits.{rows, readLimit, indexReadLimit, lastMinute}
 use Rattle.records.specs.Relations.{stripes-read, stripes-some}
 use Rattle.records.specs.Zero.{noRead, noIndexRead}
 use Rattle.rules.specs.Lists.{any, memb}
 use Rattle.rules.specs.Types.{Store, Tx, ReadRecord, IndexRead, Key}
-use Rattle.rules.specs.Store.{posting, valueAt, stripeOf, postingsOf}
+use Rattle.rules.specs.Store.{posting, valueAt, stripeOf, postingsOf, activeTxids}
 use Rattle.rules.specs.Transaction.{writesOf, readsOf, indexReadsOf, sees, withReads}
+use Rattle.rules.specs.Admitted.{resting}
 use Rattle.rules.specs.Fit.{stripesApart, fit}
 use Rattle.rules.specs.Numbers.{numberOf}
 use Rattle.rules.specs.Calls.{readPtr, recordRead, candidates, recordReads, recordStamp, matching, lookup}
@@ -23,6 +24,7 @@ use Rattle.basic_laws.specs.Cases.{by, clash, iff, and-true, or-true, or-left, 
 use Rattle.basic_laws.specs.Members.{mem-all}
 use Rattle.basic_laws.specs.Rising.{rising-ext, rising-short}
 use Rattle.statements.specs.Sized.{Sized}
+use Rattle.statements.specs.Table.{None}
 use Rattle.statements.specs.ReadWords.{Visible, ofRow, rowId, Reading, Candidate, Finds, Tried, InTurn, done, next, readAll, AllRead, stampOf, Looks}
 use Rattle.statements.specs.ReadWords.{LookupTooMany}
 use Rattle.basic_laws.specs.TestParts.{fit-parts, parts-fit}
@@ -193,7 +195,18 @@ module _ (S : Store) (x : Tx) (k : ℕ) (z : Sized S) (y : SizedTx x) (h : numbe
         active = passed .first .active;
       })
 
--- "24 if they don't all fit": exactly where what its candidates would record doesn't fit, and else it is accepted
+module _ (S : Store) (x : Tx) (P : Admitted S x) (healthy : S .poisoned ≡ false) where
+  -- the tests before 31 are passed
+  firsts : None (not (resting S) ∷ not (fit S x) ∷ not (memb (x .txid .0) (activeTxids (S .active))) ∷ S .poisoned ∷ [])
+  firsts = (rw (P .rests), (rw (P .fits), (rw (P .active), (healthy, tt))))
+
+  -- "Lookup of such a key gets the same number": refused so exactly then
+  pub lookup-impossible : (k : ℕ) → (numberOf (lookup S x k .refusal) ≡ 31) ↔ (lastMinute < k)
+  lookup-impossible k =
+      let t = lookup-told S x k .2 .2 .2 .2 .0 in
+      (λ h. ltb-true lastMinute k (t .0 h .1), λ lt. t .1 (firsts, lt-ltb lastMinute k lt))
+
+-- "24 if they don't all fit": of a minute, exactly where what its candidates would record doesn't fit, and else it is accepted
 module _ (S : Store) (x : Tx) (L : ℕ → List ℕ) (z : Sized S) (R : Rests S L) (P : Admitted S x) (healthy : S .poisoned ≡ false) (k : ℕ) where
   over : (ltb readLimit (length (recordReads S x (candidates S x k) (readsOf x))) ≡ true) ↔ LookupTooMany S x k L
   over =
@@ -205,26 +218,31 @@ module _ (S : Store) (x : Tx) (L : ℕ → List ℕ) (z : Sized S) (R : Rests S 
             lt-ltb readLimit (length m) (rw (e, tried-one S x k L z R f (t .0) (t .2)) at (t .4)),
       )
 
-  pub lookup-full : (numberOf (lookup S x k .refusal) ≡ 24) ↔ LookupTooMany S x k L
+  pub lookup-full : (numberOf (lookup S x k .refusal) ≡ 24) ↔ ((k ≤ lastMinute) × LookupTooMany S x k L)
   lookup-full =
-      let t = lookup-told S x k .2 .2 .2 .2 .0 in (
-        λ h. over .0 (t .0 h .1),
-        λ m. t .1 ((rw (P .rests), (rw (P .fits), (rw (P .active), (healthy, tt)))), over .1 m),
+      let t = lookup-told S x k .2 .2 .2 .2 .2 .0 in
+      let f = firsts S x P healthy in (
+        λ h. let n = t .0 h in (ltb-false lastMinute k (n .0 .1 .1 .1 .1 .0), over .0 (n .1)),
+        λ m. t .1 ((f .0, (f .1 .0, (f .1 .1 .0, (f .1 .1 .1 .0, (le-ltb lastMinute k (m .0), tt))))), over .1 (m .1)),
       )
 
-  pub lookup-done : (numberOf (lookup S x k .refusal) ≡ 0) ↔ (LookupTooMany S x k L → ⊥)
+  pub lookup-done : (numberOf (lookup S x k .refusal) ≡ 0) ↔ ((k ≤ lastMinute) × (LookupTooMany S x k L → ⊥))
   lookup-done =
-      let t = lookup-told S x k .2 .2 .2 .2 .2 in (
-        λ h m. clash (over .1 m) (t .0 h .1 .1 .1 .1 .0),
+      let t = lookup-told S x k .2 .2 .2 .2 .2 .2 in
+      let f = firsts S x P healthy in (
+        λ h. let n = t .0 h .1 .1 .1 .1 in (ltb-false lastMinute k (n .0), λ m. clash (over .1 m) (n .1 .0)),
         λ n. t .1 (
-          rw (P .rests),
+          f .0,
           (
-            rw (P .fits),
+            f .1 .0,
             (
-              rw (P .active),
+              f .1 .1 .0,
               (
-                healthy,
-                (by (ltb readLimit (length (recordReads S x (candidates S x k) (readsOf x)))) (λ e. absurd (n (over .0 e))) (λ e. e), tt),
+                f .1 .1 .1 .0,
+                (
+                  le-ltb lastMinute k (n .0),
+                  (by (ltb readLimit (length (recordReads S x (candidates S x k) (readsOf x)))) (λ e. absurd (n .1 (over .0 e))) (λ e. e), tt),
+                ),
               ),
             ),
           ),

@@ -4,7 +4,7 @@ use mathlib.Core.Bool.{true, false, not}
 use Prim.Native.Nat.{ℕ, _≤_, _<_}
 use lib.ListN.{length, getD}
 use borrow.Author.Tests.{eqb-false, ltb-false, leb-false, not-false}
-use Rattle.records.specs.Limits.{rows, activeLimit, writeLimit, readLimit, clockEnd}
+use Rattle.records.specs.Limits.{rows, activeLimit, writeLimit, readLimit, clockEnd, lastMinute}
 use Rattle.rules.specs.Lists.{memb}
 use Rattle.rules.specs.Types.{Store, Tx, Value}
 use Rattle.rules.specs.Store.{activeTxids}
@@ -14,6 +14,7 @@ use Rattle.rules.specs.Fit.{fit}
 use Rattle.rules.specs.Numbers.{numberOf}
 use Rattle.rules.specs.Calls.{begin, recordRead, read, lowestFree, write, candidates, recordReads, lookup, lockedByAnother, rowLock, abort}
 use Rattle.sentences.specs.FirstLine.{none-applies}
+use Rattle.statements.specs.StoreWords.{storedKey}
 use Rattle.statements.specs.OtherNumbers.{firstLines, beginLines, readLines, writeLines, lookupLines, rowLockLines}
 use Rattle.sentences.specs.Refusals.{begin-told, read-told, write-told, lookup-told, rowLock-told, abort-told}
 
@@ -73,37 +74,45 @@ module _ (S : Store) (x : Tx) where
         room = ltb-false readLimit (length (recordRead S x r (readsOf x))) (m .1 .1 .0);
       }
 
-  -- write: not 9, 23, 25, 26
-  pub record WritePassed (r : ℕ) : Type 0 where
+  -- write: not 9, 23, 25, 31, 26
+  pub record WritePassed (r : ℕ) (v : Value) : Type 0 where
     pub first : Admitted
     pub healthy : S .poisoned ≡ false
     pub row : r < rows
     pub room : x .«write_count» < writeLimit
+    pub minute : storedKey v ≤ lastMinute
     pub free : lowestFree (S .xmin) ≡ 0 → ⊥
 
-  pub write-passed : (r : ℕ) (v : Value) → numberOf (write S x r v .refusal) ≡ 0 → WritePassed r
+  pub write-passed : (r : ℕ) (v : Value) → numberOf (write S x r v .refusal) ≡ 0 → WritePassed r v
   write-passed r v h =
-      let n = none-applies (write S x r v .refusal) (writeLines S x r) (write-told S x r v) h in
+      let n = none-applies (write S x r v .refusal) (writeLines S x r v) (write-told S x r v) h in
       let m = n .1 .1 .1 in
       record {
         first = admits-of n;
         healthy = m .0;
         row = leb-false rows r (m .1 .0);
         room = leb-false writeLimit (x .«write_count») (m .1 .1 .0);
-        free = eqb-false (lowestFree (S .xmin)) 0 (m .1 .1 .1 .0);
+        minute = ltb-false lastMinute (storedKey v) (m .1 .1 .1 .0);
+        free = eqb-false (lowestFree (S .xmin)) 0 (m .1 .1 .1 .1 .0);
       }
 
-  -- lookup: not 9, 24
+  -- lookup: not 9, 31, 24
   pub record LookupPassed (k : ℕ) : Type 0 where
     pub first : Admitted
     pub healthy : S .poisoned ≡ false
+    pub minute : k ≤ lastMinute
     pub room : length (recordReads S x (candidates S x k) (readsOf x)) ≤ readLimit
 
   pub lookup-passed : (k : ℕ) → numberOf (lookup S x k .refusal) ≡ 0 → LookupPassed k
   lookup-passed k h =
       let n = none-applies (lookup S x k .refusal) (lookupLines S x k) (lookup-told S x k) h in
       let m = n .1 .1 .1 in
-      record { first = admits-of n; healthy = m .0; room = ltb-false readLimit (length (recordReads S x (candidates S x k) (readsOf x))) (m .1 .0) }
+      record {
+        first = admits-of n;
+        healthy = m .0;
+        minute = ltb-false lastMinute k (m .1 .0);
+        room = ltb-false readLimit (length (recordReads S x (candidates S x k) (readsOf x))) (m .1 .1 .0);
+      }
 
   -- row lock: not 9, 23, 27, 28
   pub record RowLockPassed (r : ℕ) : Type 0 where

@@ -63,6 +63,7 @@ module _ (S : Store) (p t : ℕ) where
           unowned = getD-set-other (S .owner) p q t 0 ne ∙ f .unowned;
         };
     absent = F .absent;
+    minute = F .minute;
   }
 
   -- the store rests with the same chains

@@ -8,7 +8,7 @@ use lib.ListN.{length, getD, set, length-set}
 use lib.Seq.{getD-set-same, getD-set-other}
 use lib.Dec.{eqb}
 use borrow.Author.Tests.{eqb-true, eqb-false}
-use Rattle.records.specs.Limits.{slots}
+use Rattle.records.specs.Limits.{slots, lastMinute}
 use Rattle.records.specs.Setters.{slotted}
 use Rattle.rules.specs.Lists.{memb}
 use Rattle.rules.specs.Types.{Store, Value, Absent, Key}
@@ -17,7 +17,7 @@ use Rattle.rules.specs.Admitted.{finished}
 use Rattle.rules.specs.Puts.{takeSlot, applyAll}
 use Rattle.basic_laws.specs.Cases.{by, clash}
 use Rattle.statements.specs.Sized.{Sized}
-use Rattle.statements.specs.StoreWords.{Lowest}
+use Rattle.statements.specs.StoreWords.{Lowest, storedKey}
 use Rattle.admitted_laws.specs.Repairable.{SlotForm, Off, OffForm}
 use Rattle.recovery_laws.specs.Start.{txid-positive, txid-unfinished}
 use Rattle.recovery_laws.specs.Sizes.{sized-all}
@@ -58,8 +58,13 @@ absent-at : (p : ℕ) (v : Value) (key : List ℕ) (has : List Bool) → p < len
 absent-at p Absent key has lt e n = e
 absent-at p (Key k) key has lt e n = clash (getD-set-same has p true false lt) n
 
+-- the taken slot's key is the value's, a minute where that is one
+minute-at : (p : ℕ) (v : Value) (key : List ℕ) → p < length key → getD key p 0 ≡ 0 → storedKey v ≤ lastMinute → getD (keyAt p v key) p 0 ≤ lastMinute
+minute-at p Absent key lt e le = rw e (omega arith)
+minute-at p (Key k) key lt e le = rw (getD-set-same key p k 0 lt) le
+
 module _ (S : Store) (L : ℕ → List ℕ) (z : Sized S) (R : Rests S L) (p t q : ℕ) (v : Value) (W : Lowest (S .xmin) p)
-    (a : memb t (activeTxids (S .active)) ≡ true) (le : q ≤ slots) where
+    (a : memb t (activeTxids (S .active)) ≡ true) (le : q ≤ slots) (minute : storedKey v ≤ lastMinute) where
   abbrev T : Store
   T = took p t q v S
 
@@ -107,6 +112,10 @@ module _ (S : Store) (L : ℕ → List ℕ) (z : Sized S) (R : Rests S L) (p t q
             (λ k. let xp = eqb-true x p k in
             rw xp (absent-at p v (S .key) (S .has) (omega (arith, W .within, z .xmin, z .has)) (F .absent p (F .free p (W .free) .empty)) (rw xp at e)))
             (λ k. let n = eqb-false x p k in key-other p v (S .key) x n ∙ F .absent x (sym (has-other p v (S .has) x n) ∙ e));
+        minute = λ x u. by (eqb x p)
+            (λ k. rw (eqb-true x p k)
+            (minute-at p v (S .key) (omega (arith, W .within, z .xmin, z .key)) (F .absent p (F .free p (W .free) .empty)) minute))
+            (λ k. let n = eqb-false x p k in rw (key-other p v (S .key) x n) (F .minute x (rw (xmin-other x n) at u)));
       }
 
   -- a slot off every chain is of an unfinished txid, the new one too

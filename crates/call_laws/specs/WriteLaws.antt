@@ -2,13 +2,14 @@
 use mathlib.Core.Path.{_≡_, refl, sym, _∙_}
 use mathlib.Core.Bool.{Bool, true, false, not, _&&_, _||_}
 use mathlib.Core.List.{List, [], _∷_, _++_}
+use mathlib.Core.Logic.{_↔_}
 use Prim.Native.Nat.{ℕ, suc, _≤_, _<_}
 use native.Mathlib.Omega.{arith}
 use lib.ListN.{length, getD, length-append}
 use lib.Seq.{getD-set-same, getD-set-other, length-take-le}
 use lib.Dec.{eqb, leb}
-use borrow.Author.Tests.{eqb-false, eq-eqb, ne-eqb, ltb-true, lt-ltb, leb-true, le-leb}
-use Rattle.records.specs.Limits.{rows, slots, writeLimit}
+use borrow.Author.Tests.{eqb-false, eq-eqb, ne-eqb, ltb-true, lt-ltb, leb-true, le-leb, lt-leb}
+use Rattle.records.specs.Limits.{rows, slots, writeLimit, lastMinute}
 use Rattle.records.specs.Zero.{noWrite}
 use Rattle.rules.specs.Lists.{all, any, memb, firstOf}
 use Rattle.rules.specs.Types.{Store, Tx, Write, Value}
@@ -28,8 +29,8 @@ use Rattle.basic_laws.specs.AllOf.{all-then}
 use Rattle.admitted_laws.specs.Repairable.{marks}
 use Rattle.recovery_laws.specs.Start.{txid-positive}
 use Rattle.admitted_laws.specs.Resting.{Rests, rests, rested}
-use Rattle.sentences.specs.Refusals.{write-accepted}
-use Rattle.call_laws.specs.Passed.{write-passed}
+use Rattle.sentences.specs.Refusals.{write-told, write-accepted}
+use Rattle.call_laws.specs.Passed.{Admitted, write-passed}
 use Rattle.basic_laws.specs.Blanks.{all-both, all-more, all-mid, drop-pad}
 use Rattle.statements.specs.ReadWords.{ofRow}
 use Rattle.call_laws.specs.ReadLaws.{visibleAt, mem-mid, first-of, none-of, first-none, last-of, last-none, writes-taken}
@@ -37,7 +38,7 @@ use Rattle.call_laws.specs.Counts.{SizedTx, blankWrite, counts-parts, pa
 use Rattle.call_laws.specs.Keeps.{Keeps}
 use Rattle.call_laws.specs.StaysFit.{fitsIn, on-same, writes-fit}
 use Rattle.call_laws.specs.Took.{took, took-is, took-sized, took-rests}
-use Rattle.statements.specs.StoreWords.{Blank, Lowest, Xmin, Xmax, Next, Values, RowLocks}
+use Rattle.statements.specs.StoreWords.{Blank, Lowest, storedKey, Xmin, Xmax, Next, Values, RowLocks}
 use Rattle.statements.specs.CallWords.{Based, kept, found, none, Writes}
 use Rattle.sentences.specs.StoreSays.{lowest, differ, slot-taken}
 use Rattle.sentences.specs.CallsSay.{one-write-more}
@@ -118,7 +119,7 @@ module _ (S : Store) (x : Tx) (L : ℕ → List ℕ) (z : Sized S) (R : Rests S 
   base-shared q p (none e s) = else-shares (writesOf x) (writeOf r q p) e
 
   module _ (y : SizedTx x) (p : ℕ) (v : Value) (W : Lowest (S .xmin) p) (a : memb (x .txid .0) (activeTxids (S .active)) ≡ true)
-      (room : x .«write_count» < writeLimit) where
+      (room : x .«write_count» < writeLimit) (minute : storedKey v ≤ lastMinute) where
     abbrev t : ℕ
     t = x .txid .0
 
@@ -141,10 +142,10 @@ module _ (S : Store) (x : Tx) (L : ℕ → List ℕ) (z : Sized S) (R : Rests S 
 
     -- the store rests with the same chains
     T-sized : Sized T
-    T-sized = took-sized S L z R p t q v W a le
+    T-sized = took-sized S L z R p t q v W a le minute
 
     T-rests : Rests T L
-    T-rests = took-rests S L z R p t q v W a le
+    T-rests = took-rests S L z R p t q v W a le minute
 
     marked : (n : ℕ) → on (walk (T .heads) (T .next) .seen) n ≡ on (walk (S .heads) (S .next) .seen) n
     marked = on-same S T L R z T-rests T-sized refl
@@ -260,7 +261,7 @@ module _ (S : Store) (x : Tx) (r : ℕ) (v : Value) (z : Sized S) (h : numberOf 
       let P = write-passed S x r v h in
       let p = lowestFree (S .xmin) in
       rw (write-accepted S x r v h, took-is p (x .txid .0) (baseOf S x r) v S)
-      (T-rests S x L z R (P .first .fits) r (P .row) y p v (lowest (S .xmin) (P .free)) (P .first .active) (P .room))
+      (T-rests S x L z R (P .first .fits) r (P .row) y p v (lowest (S .xmin) (P .free)) (P .first .active) (P .room) (P .minute))
 
   -- and the transaction can go on
   pub write-keeps : SizedTx x → Keeps (write S x r v .store) (write S x r v .tx)
@@ -270,7 +271,7 @@ module _ (S : Store) (x : Tx) (r : ℕ) (v : Value) (z : Sized S) (h : numberOf 
       let R = rests S z (l .rests) in
       let p = lowestFree (S .xmin) in
       let W = lowest (S .xmin) (P .free) in
-      let Z = T-sized S x (R .0) z (R .1) (l .fits) r (P .row) y p v W (l .active) (P .room) in
+      let Z = T-sized S x (R .0) z (R .1) (l .fits) r (P .row) y p v W (l .active) (P .room) (P .minute) in
       rw (write-accepted S x r v h, took-is p (x .txid .0) (baseOf S x r) v S) (record {
         sized = Z;
         shaped = record {
@@ -280,7 +281,21 @@ module _ (S : Store) (x : Tx) (r : ℕ) (v : Value) (z : Sized S) (h : numberOf 
           «index_reads» = y .«index_reads»;
           savepoints = y .savepoints;
         };
-        rests = rested (took p (x .txid .0) (baseOf S x r) v S) (R .0) Z (T-rests S x (R .0) z (R .1) (l .fits) r (P .row) y p v W (l .active) (P .room));
-        fits = write-fits S x (R .0) z (R .1) (l .fits) r (P .row) y p v W (l .active) (P .room);
+        rests =
+            rested (took p (x .txid .0) (baseOf S x r) v S) (R .0) Z
+            (T-rests S x (R .0) z (R .1) (l .fits) r (P .row) y p v W (l .active) (P .room) (P .minute));
+        fits = write-fits S x (R .0) z (R .1) (l .fits) r (P .row) y p v W (l .active) (P .room) (P .minute);
         active = l .active;
       })
+
+-- "A write of a larger key is refused with 31, after 25": refused so exactly then
+pub write-impossible : (S : Store) (x : Tx) → Admitted S x → S .poisoned ≡ false → (r : ℕ) → r < rows → x .«write_count» < writeLimit → (v : Value)
+    → (numberOf (write S x r v .refusal) ≡ 31) ↔ (lastMinute < storedKey v)
+write-impossible S x P healthy r lt room v =
+    let t = write-told S x r v .2 .2 .2 .2 .2 .2 .0 in (
+      λ h. ltb-true lastMinute (storedKey v) (t .0 h .1),
+      λ over. t .1 (
+        (rw (P .rests), (rw (P .fits), (rw (P .active), (healthy, (lt-leb rows r lt, (lt-leb writeLimit (x .«write_count») room, tt)))))),
+        lt-ltb lastMinute (storedKey v) over,
+      ),
+    )

@@ -6,10 +6,10 @@ use Prim.Native.Nat.{ℕ}
 use lib.ListN.{length, getD, replicate, length-replicate}
 use lib.Dec.{ltb}
 use Rattle.records.specs.Limits.{rows, readLimit}
-use Rattle.basic_laws.specs.Cases.{clash}
+use Rattle.basic_laws.specs.Cases.{by, clash}
 use Rattle.rules.specs.Lists.{pad}
-use Rattle.rules.specs.Types.{Store, Tx, Found, ReadRecord, Refusal, ReadsFull, Open}
-use Rattle.rules.specs.Store.{stripeOf}
+use Rattle.rules.specs.Types.{Store, Tx, Found, ReadRecord, Key, Refusal, ReadsFull, ImpossibleMinute, Open}
+use Rattle.rules.specs.Store.{impossible, stripeOf}
 use Rattle.rules.specs.Transaction.{readsOf, indexReadsOf, withReads, withIndexReads}
 use Rattle.rules.specs.Fit.{fit}
 use Rattle.rules.specs.Numbers.{Try, refuse, tries, isDone}
@@ -30,21 +30,21 @@ use Rattle.admit.specs.Admission.{admitted}
 use Rattle.calls.specs.Refused.{unless, poisonedTries, found-healthy, both-done, admitted-both, choose, choose-done, choose-refused}
 use Rattle.calls.specs.LentWhole.{heads-whole, next-whole, xmin-whole, key-whole, has-whole, postings-whole, stamps-whole}
 
-abbrev pub lookupTests : Bool → List Try
-lookupTests over = refuse over (ReadsFull Open) ∷ []
+abbrev pub lookupTests : ℕ → Bool → List Try
+lookupTests k over = refuse (impossible (Key k)) (ImpossibleMinute Open) ∷ refuse over (ReadsFull Open) ∷ []
 
-unfoldable pub lookupTries : Bool → Refusal
-lookupTries over = tries (lookupTests over)
+unfoldable pub lookupTries : ℕ → Bool → Refusal
+lookupTries k over = tries (lookupTests k over)
 
-lookup-tries : (l : ReadList) (m : List ReadRecord) → l ≡ laid m → lookupTries (l .over) ≡ tries (lookupTests (ltb readLimit (length m)))
+lookup-tries : (k : ℕ) (l : ReadList) (m : List ReadRecord) → l ≡ laid m → lookupTries k (l .over) ≡ tries (lookupTests k (ltb readLimit (length m)))
 unfolding lookupTries laid
-lookup-tries l m e = rw e
+lookup-tries k l m e = rw e
 
 -- where nothing is refused, the reads fit
-reads-fit : (over : Bool) → isDone (lookupTries over) ≡ true → over ≡ false
+reads-fit : (k : ℕ) (over : Bool) → isDone (lookupTries k over) ≡ true → over ≡ false
 unfolding lookupTries
-reads-fit true h = clash h refl
-reads-fit false h = refl
+reads-fit k true h = by (impossible (Key k)) (λ e. clash h (rw e)) (λ e. clash h (rw e))
+reads-fit k false h = refl
 
 -- the transaction afterwards, from the stamps of the store
 unfoldable pub looked : List ℕ → Tx → List ReadRecord → ℕ → Tx
@@ -87,7 +87,7 @@ module _ (S : Store) (x : Tx) (k : ℕ) where
   reads-after = recordReads S x (candidates S x k) (readsOf x)
 
   abbrev lookupWhy : Refusal
-  lookupWhy = admitsHealthy S x (lookupTests (ltb readLimit (length reads-after)))
+  lookupWhy = admitsHealthy S x (lookupTests k (ltb readLimit (length reads-after)))
 
   abbrev done : Refusal → Found
   done w =
@@ -106,7 +106,7 @@ module _ (S : Store) (x : Tx) (k : ℕ) where
       (h : l ≡ laid (recordReadsOf (atRows (S .heads)) (atPlaces (S .next)) (atPlaces (S .xmin)) x (markedRows (flagsAtRows marks)) (readsOf x)))
       (a : tried ≡ admitted S x true)
       (e : first ≡ unless tried (poisonedTries (S .poisoned)))
-      (f : why ≡ unless first (lookupTries (l .over))) where
+      (f : why ≡ unless first (lookupTries k (l .over))) where
     list-is : fit S x ≡ true → l ≡ laid reads-after
     list-is ok =
         (rw (heads-whole S z, next-whole S z, xmin-whole S z, rows-marked S x k marks z ok c) at h)
@@ -114,8 +114,8 @@ module _ (S : Store) (x : Tx) (k : ℕ) where
 
     why-is : why ≡ lookupWhy
     why-is =
-        found-healthy S x (lookupTests (ltb readLimit (length reads-after))) tried first why (lookupTries (l .over)) a e f
-        (λ ok. lookup-tries l reads-after (list-is ok))
+        found-healthy S x (lookupTests k (ltb readLimit (length reads-after))) tried first why (lookupTries k (l .over)) a e f
+        (λ ok. lookup-tries k l reads-after (list-is ok))
 
     pub lookup-refused : isDone why ≡ false → record { refusal = why; rows = replicate rows (asRow 0); count = 0; tx = x } ≡ lookup S x k
     lookup-refused d = choose-refused done refused why _ why-is d ∙ answer
@@ -132,7 +132,7 @@ module _ (S : Store) (x : Tx) (k : ℕ) where
         ∙ ap rowList (sym (matching-of S x k)) in
         let parts = row-list q (matching S x k) found in
         let tx-is : y ≡ looked (S .stamps) x reads-after k =
-        rw (stamps-whole S z) at (w reads-after (list-is ok) (reads-fit (l .over) (both-done why first (lookupTries (l .over)) f d .1))) in
+        rw (stamps-whole S z) at (w reads-after (list-is ok) (reads-fit k (l .over) (both-done why first (lookupTries k (l .over)) f d .1))) in
         (λ i. record { refusal = why; rows = parts .0 i; count = parts .1 i; tx = tx-is i })
         ∙ choose-done done refused why _ why-is d
         ∙ answer

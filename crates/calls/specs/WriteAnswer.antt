@@ -1,6 +1,6 @@
 -- Write: why it refuses, and its answer.
-use mathlib.Core.Path.{_≡_, refl, sym, _∙_}
-use mathlib.Core.Bool.{true, false}
+use mathlib.Core.Path.{_≡_, refl, sym, ap, _∙_}
+use mathlib.Core.Bool.{Bool, true, false}
 use mathlib.Core.List.{List, [], _∷_, _++_}
 use Prim.Native.Nat.{ℕ, suc, _+_, _<_, _≤_}
 use native.Mathlib.Omega.{arith}
@@ -10,7 +10,8 @@ use Rattle.records.specs.Limits.{rows, places, writeLimit}
 use Rattle.records.specs.Relations.{call-puts}
 use Rattle.rules.specs.Lists.{firstZero}
 use Rattle.basic_laws.specs.Cases.{by}
-use Rattle.rules.specs.Types.{Store, Tx, Value, Absent, Key, Written, Refusal, RowTooHigh, WritesFull, SlotsFull, Open}
+use Rattle.rules.specs.Types.{Store, Tx, Value, Absent, Key, Written, Refusal, RowTooHigh, WritesFull, ImpossibleMinute, SlotsFull, Open}
+use Rattle.rules.specs.Store.{impossible}
 use Rattle.rules.specs.Transaction.{writesOf, withWrites}
 use Rattle.rules.specs.Numbers.{Try, refuse, tries, isDone}
 use Rattle.rules.specs.Puts.{takeSlot, applyAll}
@@ -23,15 +24,20 @@ use Rattle.admit.specs.Admission.{admitted}
 use Rattle.calls.specs.Refused.{unless, poisonedTries, found-healthy, choose, choose-done, choose-refused}
 use Rattle.calls.specs.LentWhole.{heads-whole, next-whole, xmin-whole}
 
-abbrev pub writeTests : ℕ → ℕ → ℕ → List Try
-writeTests r writes free = refuse (leb rows r) (RowTooHigh Open) ∷ refuse (leb writeLimit writes) (WritesFull Open) ∷ refuse (eqb free 0) (SlotsFull Open) ∷ []
+abbrev pub writeTests : ℕ → ℕ → Bool → Bool → List Try
+writeTests r writes beyond full =
+    refuse (leb rows r) (RowTooHigh Open)
+    ∷ refuse (leb writeLimit writes) (WritesFull Open)
+    ∷ refuse beyond (ImpossibleMinute Open)
+    ∷ refuse full (SlotsFull Open)
+    ∷ []
 
-unfoldable pub writeTries : ℕ → ℕ → ℕ → Refusal
-writeTries r writes free = tries (writeTests r writes free)
+unfoldable pub writeTries : ℕ → ℕ → Bool → Bool → Refusal
+writeTries r writes beyond full = tries (writeTests r writes beyond full)
 
-write-tries : (r writes free p : ℕ) → free ≡ p → writeTries r writes free ≡ tries (writeTests r writes p)
+write-tries : (r writes : ℕ) {beyond full b c : Bool} → beyond ≡ b → full ≡ c → writeTries r writes beyond full ≡ tries (writeTests r writes b c)
 unfolding writeTries
-write-tries r writes free p e = rw e
+write-tries r writes e f = rw (e, f)
 
 -- the lowest free slot is a slot or null
 zero-within : (p : ℕ) (l : List ℕ) → firstZero p l ≤ p + length l
@@ -55,7 +61,7 @@ module _ (S : Store) (x : Tx) (r : ℕ) (v : Value) where
   base-at = baseOf S x r
 
   abbrev writeWhy : Refusal
-  writeWhy = admitsHealthy S x (writeTests r (x .«write_count») free-at)
+  writeWhy = admitsHealthy S x (writeTests r (x .«write_count») (impossible v) (eqb free-at 0))
 
   abbrev made : Refusal → ℕ → ℕ → Written
   made w p q = record {
@@ -76,18 +82,20 @@ module _ (S : Store) (x : Tx) (r : ℕ) (v : Value) where
   answer = refl
 
   -- as code finds it
-  module _ (z : Sized S) {free : ℕ} {tried first why : Refusal}
+  module _ (z : Sized S) {free : ℕ} {beyond full : Bool} {tried first why : Refusal}
       (h : free ≡ lowestFree (atPlaces (S .xmin)))
       (a : tried ≡ admitted S x true)
       (e : first ≡ unless tried (poisonedTries (S .poisoned)))
-      (f : why ≡ unless first (writeTries r (x .«write_count») free)) where
+      (o : beyond ≡ impossible v)
+      (g : full ≡ eqb free 0)
+      (f : why ≡ unless first (writeTries r (x .«write_count») beyond full)) where
     free-is : free ≡ free-at
     free-is = rw (xmin-whole S z) at h
 
     why-is : why ≡ writeWhy
     why-is =
-        found-healthy S x (writeTests r (x .«write_count») free-at) tried first why (writeTries r (x .«write_count») free) a e f
-        (λ _. write-tries r (x .«write_count») free free-at free-is)
+        found-healthy S x (writeTests r (x .«write_count») (impossible v) (eqb free-at 0)) tried first why (writeTries r (x .«write_count») beyond full) a e f
+        (λ _. write-tries r (x .«write_count») o (g ∙ ap (λ p. eqb p 0) free-is))
 
     pub write-refused : isDone why ≡ false → record { refusal = why; slot = record { 0 = 0 }; store = S; tx = x } ≡ write S x r v
     write-refused d = choose-refused done refused why _ why-is d ∙ answer

@@ -10,6 +10,7 @@ ghost use Rattle.recording.specs.ReadList.{laid};
 ghost use Rattle.calls.specs.Refused.{unless};
 ghost use Rattle.calls.specs.LookupAnswer.{lookupTries, looked};
 use super::refusal::healthy;
+use super::refusal::impossible;
 use admit::admission::admitted;
 use admit::admission::is_done;
 use recording::candidates::candidates;
@@ -27,13 +28,17 @@ use records::Refusal;
 use records::RowId;
 use records::Store;
 use records::Tx;
+use records::Value;
 
-// Number 24, if nothing was refused before.
-fn lookup_refusal(first: Refusal, over: bool) -> Refusal
-    ensures { λ q. ⌜ q ≡ unless first (lookupTries over) ⌝ }
+// Numbers 31 and 24, if nothing was refused before.
+fn lookup_refusal(first: Refusal, k: u32, over: bool) -> Refusal
+    ensures { λ q. ⌜ q ≡ unless first (lookupTries k over) ⌝ }
 {
     if !is_done(first) {
         return first;
+    }
+    if impossible(Value::Key(k)) {
+        return Refusal::ImpossibleMinute(Fate::Open);
     }
     if over {
         return Refusal::ReadsFull(Fate::Open);
@@ -60,7 +65,7 @@ pub fn lookup(s: Store, x: Tx, k: u32) -> Found
     let l = record_marked(&s.heads, &s.next, &s.xmin, &marks, x);
     let tried = admitted(s, x, true);
     let first = healthy(tried, s.poisoned);
-    let why = lookup_refusal(first, l.over);
+    let why = lookup_refusal(first, k, l.over);
     if !is_done(why) {
         return Found {
             refusal: why,

@@ -9,6 +9,7 @@ ghost use Rattle.journal.specs.Adds.{Adds};
 ghost use Rattle.calls.specs.Refused.{unless};
 ghost use Rattle.calls.specs.WriteAnswer.{writeTries};
 use super::refusal::healthy;
+use super::refusal::impossible;
 use admit::admission::admitted;
 use admit::admission::is_done;
 use journal::Journal;
@@ -27,9 +28,9 @@ use records::Written;
 use visibility::found::base_of;
 use visibility::slots::lowest_free;
 
-// Numbers 23, 25 and 26, if nothing was refused before.
-fn write_refusal(first: Refusal, r: RowId, writes: usize, free: SlotPtr) -> Refusal
-    ensures { λ q. ⌜ q ≡ unless first (writeTries (r .0) writes (free .0)) ⌝ }
+// Numbers 23, 25, 31 and 26, if nothing was refused before.
+fn write_refusal(first: Refusal, r: RowId, writes: usize, beyond: bool, full: bool) -> Refusal
+    ensures { λ q. ⌜ q ≡ unless first (writeTries (r .0) writes beyond full) ⌝ }
 {
     if !is_done(first) {
         return first;
@@ -40,7 +41,10 @@ fn write_refusal(first: Refusal, r: RowId, writes: usize, free: SlotPtr) -> Refu
     if Tx::WRITES <= writes {
         return Refusal::WritesFull(Fate::Open);
     }
-    if free.0 == 0 {
+    if beyond {
+        return Refusal::ImpossibleMinute(Fate::Open);
+    }
+    if full {
         return Refusal::SlotsFull(Fate::Open);
     }
     Refusal::Done
@@ -72,7 +76,9 @@ pub fn write(s: Store, x: Tx, r: RowId, v: Value) -> Written
     let free = lowest_free(&s.xmin);
     let tried = admitted(s, x, true);
     let first = healthy(tried, s.poisoned);
-    let why = write_refusal(first, r, x.write_count, free);
+    let beyond = impossible(v);
+    let full = free.0 == 0;
+    let why = write_refusal(first, r, x.write_count, beyond, full);
     if !is_done(why) {
         return Written {
             refusal: why,

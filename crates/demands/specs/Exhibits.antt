@@ -1,11 +1,11 @@
--- Not vacuous: stores, transactions, schedules and cuts that meet the premises of the demands, with each outcome; and the numbers 20 to 28, which
--- calls beside commit give. (0 to 19 are exhibited by `struck` and `all-answered`, Struck.)
+-- Not vacuous: stores, transactions, schedules and cuts that meet the premises of the demands, with each outcome; and the numbers 20 to 28 and 31,
+-- which calls beside commit give. (0 to 19 are exhibited by `struck` and `all-answered`, Struck.)
 use mathlib.Core.Path.{_≡_, refl, ap}
 use mathlib.Core.Bool.{true, false}
 use mathlib.Core.List.{List, [], _∷_, _++_}
 use Prim.Native.Nat.{ℕ, suc}
 use lib.ListN.{length, getD, replicate}
-use Rattle.records.specs.Limits.{rows, slots, places, postingLimit, stripes, partitions, activeLimit, writeLimit, readLimit, clockEnd}
+use Rattle.records.specs.Limits.{rows, slots, places, postingLimit, stripes, partitions, activeLimit, writeLimit, readLimit, clockEnd, lastMinute}
 use Rattle.records.specs.Setters.{slotted, relisted}
 use Rattle.records.specs.Zero.{fresh, noFaults}
 use Rattle.rules.specs.Lists.{memb, pad}
@@ -28,10 +28,10 @@ use Rattle.statements.specs.Words.{Admitted, rowValue}
 use Rattle.statements.specs.Sized.{Sized, Keyed}
 
 -- a history's store, and the transaction of its place 0
-abbrev storeOf : List Line → Store
+abbrev pub storeOf : List Line → Store
 storeOf ls = morning start ls .desk .store
 
-abbrev txOf : List Line → Tx
+abbrev pub txOf : List Line → Tx
 txOf ls = txAt (morning start ls .desk) 0
 
 -- what the demands ask of a store and a transaction (demand 2 of an unpoisoned store)
@@ -107,8 +107,8 @@ pub old-and-new : (rowThree again (After 6) ≡ Key 35) × (rowThree again (Afte
 unfolding morning spoilt again done written computing
 old-and-new = (refl, refl, refl, refl)
 
--- 20 to 28: what the last line of a history answers, or a call on a store that no history leaves
-abbrev lastNumber : List Line → ℕ
+-- 20 to 28 and 31: what the last line of a history answers, or a call on a store that no history leaves
+abbrev pub lastNumber : List Line → ℕ
 lastNumber ls = morning start ls .out .number
 
 abbrev clockAt : ℕ → Store
@@ -119,7 +119,7 @@ abbrev fullReads : Tx
 fullReads = withReads (replicate readLimit (record { row = record { 0 = 0 }; ptr = record { 0 = 2 }; xmin = record { 0 = 0 } })) (txOf (done ++ lineB 0 ∷ []))
 
 -- every slot is used by the active txid 1
-abbrev noSlot : Store
+abbrev pub noSlot : Store
 noSlot =
     relisted (pad activeLimit 0 (1 ∷ [])) 2
     (slotted (0 ∷ replicate slots 1) (fresh .xmax) (fresh .next) (fresh .key) (fresh .has) (fresh .locked) (fresh .owner) fresh)
@@ -134,7 +134,8 @@ pub other-numbers :
     ∷ numberOf (write (begin noSlot .store) (begin noSlot .tx) 3 Absent .refusal)
     ∷ lastNumber (done ++ lineB 0 ∷ lineB 1 ∷ lineK 0 3 ∷ lineK 1 3 ∷ [])
     ∷ lastNumber (lineB 0 ∷ lineK 0 3 ∷ [])
+    ∷ lastNumber (lineB 0 ∷ lineW 0 3 (Key (suc lastMinute)) ∷ [])
     ∷ []
-    ≡ 20 ∷ 21 ∷ 22 ∷ 23 ∷ 24 ∷ 25 ∷ 26 ∷ 27 ∷ 28 ∷ []
+    ≡ 20 ∷ 21 ∷ 22 ∷ 23 ∷ 24 ∷ 25 ∷ 26 ∷ 27 ∷ 28 ∷ 31 ∷ []
 unfolding morning done written computing
 other-numbers = refl

@@ -10,6 +10,9 @@ pub mod ShownMornings
 -- histories with faults and cuts, and what meets the premises
 pub mod Struck
 pub mod Exhibits
+-- document 02, wish 7: no key over the last minute
+pub mod Minutes
+pub mod HeldMinutes
 -- the stamps after every commit
 pub mod StampsAfter
 -- the guards after each store of a commit

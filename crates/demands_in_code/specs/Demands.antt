@@ -8,7 +8,7 @@ use lib.ListN.{length, getD}
 use native.Mathlib.Omega.{arith}
 use lib.Dec.{ltb}
 use borrow.Author.Tests.{lt-ltb}
-use Rattle.records.specs.Limits.{rows, readLimit, keyEnd, clockEnd}
+use Rattle.records.specs.Limits.{rows, readLimit, keyEnd, clockEnd, lastMinute}
 use Rattle.records.specs.Zero.{noFaults}
 use Rattle.basic_laws.specs.Cases.{and-both}
 use Rattle.rules.specs.Lists.{all}
@@ -79,7 +79,8 @@ module _ (S : Store) (z : Sized S) (k : Keyed S) {m : Mended} {b : Reply} (e : m
   pub looks-after : (q : ℕ) {a : Found} → a ≡ lookup (b .store) (b .tx) q
       → (a ≡ lookup (begin (recover S .store) .store) (begin (recover S .store) .tx) q)
       × (repairable S ≡ true → S .clock < clockEnd → (found : List ℕ) × RowsWith (shown S) q found
-      × (length found ≤ readLimit → Answered (recover S .store) q found a) × ((numberOf (a .refusal) ≡ 24) ↔ (readLimit < length found)))
+      × (q ≤ lastMinute → length found ≤ readLimit → Answered (recover S .store) q found a) × ((numberOf (a .refusal) ≡ 24) ↔ (readLimit < length found))
+      × ((numberOf (a .refusal) ≡ 31) ↔ (lastMinute < q)))
   looks-after q g =
       let same = rw (f, e) at g in
       (same, λ mends early. rw same (recovered-shows S z k mends early .0 .looks q))

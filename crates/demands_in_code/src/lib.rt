@@ -7,7 +7,7 @@ ghost use mathlib.Core.List.{List};
 ghost use mathlib.Core.Logic.{_↔_};
 ghost use Prim.Native.Nat.{ℕ, _≤_, _<_};
 ghost use lib.ListN.{length};
-ghost use Rattle.records.specs.Limits.{rows, readLimit, clockEnd};
+ghost use Rattle.records.specs.Limits.{rows, readLimit, clockEnd, lastMinute};
 ghost use Rattle.records.specs.Zero.{noFaults};
 ghost use Rattle.rules.specs.Types.{Uncut};
 ghost use Rattle.rules.specs.Transaction.{finals};
@@ -73,11 +73,12 @@ pub fn recover_and_read(s: Store, r: RowId) -> Seen
     read(t, x, r)
 }
 
-// And it looks up exactly the rows with a key.
+// And it looks up exactly the rows with a key, 31 where that is no minute of the year.
 pub fn recover_and_look(s: Store, k: u32) -> Found
     ensures { λ a. ⌜ (a ≡ lookup (begin (recover s .store) .store) (begin (recover s .store) .tx) k)
         × (repairable s ≡ true → s .clock < clockEnd → (found : List ℕ) × RowsWith (shown s) k found
-        × (length found ≤ readLimit → Answered (recover s .store) k found a) × ((numberOf (a .refusal) ≡ 24) ↔ (readLimit < length found))) ⌝ }
+        × (k ≤ lastMinute → length found ≤ readLimit → Answered (recover s .store) k found a) × ((numberOf (a .refusal) ≡ 24) ↔ (readLimit < length found))
+        × ((numberOf (a .refusal) ≡ 31) ↔ (lastMinute < k))) ⌝ }
 {
     let mended = recover(s);
     let left = mended.store;

@@ -1,13 +1,13 @@
 -- "Replay", computed: a script with every form and many lines of no form, each beside its answer, from bytes to bytes, at the limits whatever they are.
 use mathlib.Core.Path.{_≡_, refl}
 use mathlib.Core.List.{List, [], _∷_, _++_}
-use Prim.Native.Nat.{_-_}
-use Rattle.records.specs.Limits.{rows, placeLimit, digits32}
+use Prim.Native.Nat.{suc, _-_}
+use Rattle.records.specs.Limits.{rows, placeLimit, lastMinute, digits32}
 use Rattle.rules.specs.Lists.{flat}
 use Rattle.rules.specs.Script.{Bytes, decimal, replayText}
 use Rattle.rules.specs.Computing.{computing}
 
--- the last row and the first number that is no row, each with what follows it; the same of places
+-- the last row and the first number that is no row, each with what follows it; the same of places and minutes
 abbrev lastRow : Bytes → Bytes
 lastRow = decimal digits32 (rows - 1)
 
@@ -19,6 +19,12 @@ lastPlace = decimal digits32 (placeLimit - 1)
 
 abbrev noPlace : Bytes → Bytes
 noPlace = decimal digits32 placeLimit
+
+abbrev lastKey : Bytes → Bytes
+lastKey = decimal digits32 lastMinute
+
+abbrev noKey : Bytes → Bytes
+noKey = decimal digits32 (suc lastMinute)
 
 -- a line and its answer
 unfoldable pub replayTable : List (Bytes × Bytes)
@@ -37,9 +43,9 @@ replayTable =
     ∷ (75 ∷ 9 ∷ lastPlace (9 ∷ 51 ∷ []), 49 ∷ 49 ∷ 9 ∷ 48 ∷ 9 ∷ 48 ∷ [])  -- K lastPlace 3: 11 0 0
     ∷ (76 ∷ 9 ∷ lastPlace (9 ∷ 51 ∷ 53 ∷ []), 49 ∷ 50 ∷ 9 ∷ 48 ∷ 9 ∷ 49 ∷ [])  -- L lastPlace 35: 12 0 1
     ∷ (76 ∷ 9 ∷ lastPlace (9 ∷ 53 ∷ 49 ∷ []), 49 ∷ 51 ∷ 9 ∷ 48 ∷ 9 ∷ 48 ∷ [])  -- L lastPlace 51: 13 0 0
-    ∷ (87 ∷ 9 ∷ lastPlace (9 ∷ 52 ∷ 9 ∷ 52 ∷ 50 ∷ 57 ∷ 52 ∷ 57 ∷ 54 ∷ 55 ∷ 50 ∷ 57 ∷ 53 ∷ []), 49 ∷ 52 ∷ 9 ∷ 48 ∷ 9 ∷ 50 ∷ [])  -- W lastPlace 4 2^32-1: 14 0 2
+    ∷ (87 ∷ 9 ∷ lastPlace (9 ∷ 52 ∷ 9 ∷ lastKey []), 49 ∷ 52 ∷ 9 ∷ 48 ∷ 9 ∷ 50 ∷ [])  -- W lastPlace 4 lastKey: 14 0 2
     ∷ (87 ∷ 9 ∷ lastPlace (9 ∷ 52 ∷ 9 ∷ 52 ∷ 50 ∷ 57 ∷ 52 ∷ 57 ∷ 54 ∷ 55 ∷ 50 ∷ 57 ∷ 54 ∷ []), 49 ∷ 53 ∷ 9 ∷ 50 ∷ 9 ∷ 48 ∷ [])  -- W lastPlace 4 2^32: 15 2 0
-    ∷ (82 ∷ 9 ∷ lastPlace (9 ∷ 52 ∷ []), 49 ∷ 54 ∷ 9 ∷ 48 ∷ 9 ∷ 52 ∷ 50 ∷ 57 ∷ 52 ∷ 57 ∷ 54 ∷ 55 ∷ 50 ∷ 57 ∷ 53 ∷ [])  -- R lastPlace 4: 16 0 4294967295
+    ∷ (82 ∷ 9 ∷ lastPlace (9 ∷ 52 ∷ []), 49 ∷ 54 ∷ 9 ∷ 48 ∷ 9 ∷ lastKey [])  -- R lastPlace 4: 16 0 lastKey
     ∷ (87 ∷ 9 ∷ lastPlace (9 ∷ 52 ∷ 9 ∷ 45 ∷ []), 49 ∷ 55 ∷ 9 ∷ 48 ∷ 9 ∷ 51 ∷ [])  -- W lastPlace 4 -: 17 0 3
     ∷ (82 ∷ 9 ∷ lastPlace (9 ∷ 52 ∷ []), 49 ∷ 56 ∷ 9 ∷ 48 ∷ 9 ∷ 45 ∷ [])  -- R lastPlace 4: 18 0 -
     ∷ (65 ∷ 9 ∷ lastPlace [], 49 ∷ 57 ∷ 9 ∷ 48 ∷ 9 ∷ 48 ∷ [])  -- A lastPlace: 19 0 0
@@ -140,6 +146,13 @@ replayTable =
     ∷ (75 ∷ 9 ∷ 54 ∷ 9 ∷ noRow [], 49 ∷ 48 ∷ 51 ∷ 9 ∷ 50 ∷ 51 ∷ 9 ∷ 48 ∷ [])  -- K 6 noRow: 103 23 0
     ∷ (75 ∷ 9 ∷ 54 ∷ 9 ∷ lastRow [], 49 ∷ 48 ∷ 52 ∷ 9 ∷ 48 ∷ 9 ∷ 48 ∷ [])  -- K 6 lastRow: 104 0 0
     ∷ (76 ∷ 9 ∷ 54 ∷ 9 ∷ 55 ∷ [], 49 ∷ 48 ∷ 53 ∷ 9 ∷ 48 ∷ 9 ∷ 49 ∷ [])  -- L 6 7: 105 0 1
+    -- the last minute of the year is a key, the number behind it and every larger one of 32 bits is none
+    ∷ (87 ∷ 9 ∷ 54 ∷ 9 ∷ 53 ∷ 9 ∷ noKey [], 49 ∷ 48 ∷ 54 ∷ 9 ∷ 51 ∷ 49 ∷ 9 ∷ 48 ∷ [])  -- W 6 5 noKey: 106 31 0
+    ∷ (87 ∷ 9 ∷ 54 ∷ 9 ∷ 53 ∷ 9 ∷ 52 ∷ 50 ∷ 57 ∷ 52 ∷ 57 ∷ 54 ∷ 55 ∷ 50 ∷ 57 ∷ 53 ∷ [], 49 ∷ 48 ∷ 55 ∷ 9 ∷ 51 ∷ 49 ∷ 9 ∷ 48 ∷ [])  -- W 6 5 2^32-1: 107 31 0
+    ∷ (87 ∷ 9 ∷ 54 ∷ 9 ∷ 53 ∷ 9 ∷ lastKey [], 49 ∷ 48 ∷ 56 ∷ 9 ∷ 48 ∷ 9 ∷ 52 ∷ [])  -- W 6 5 lastKey: 108 0 4
+    ∷ (76 ∷ 9 ∷ 54 ∷ 9 ∷ noKey [], 49 ∷ 48 ∷ 57 ∷ 9 ∷ 51 ∷ 49 ∷ 9 ∷ 48 ∷ [])  -- L 6 noKey: 109 31 0
+    ∷ (76 ∷ 9 ∷ 54 ∷ 9 ∷ 52 ∷ 50 ∷ 57 ∷ 52 ∷ 57 ∷ 54 ∷ 55 ∷ 50 ∷ 57 ∷ 53 ∷ [], 49 ∷ 49 ∷ 48 ∷ 9 ∷ 51 ∷ 49 ∷ 9 ∷ 48 ∷ [])  -- L 6 2^32-1: 110 31 0
+    ∷ (76 ∷ 9 ∷ 54 ∷ 9 ∷ lastKey [], 49 ∷ 49 ∷ 49 ∷ 9 ∷ 48 ∷ 9 ∷ 49 ∷ [])  -- L 6 lastKey: 111 0 1
     ∷ []
 
 -- each with a line feed; the last line, a V, has none
@@ -147,7 +160,7 @@ unfoldable pub tableScript : Bytes
 tableScript = flat (λ r. r .0 ++ 10 ∷ []) replayTable ++ 86 ∷ []
 
 unfoldable pub tableAnswers : Bytes
-tableAnswers = flat (λ r. r .1 ++ 10 ∷ []) replayTable ++ 49 ∷ 48 ∷ 54 ∷ 9 ∷ 48 ∷ 9 ∷ 48 ∷ 10 ∷ []
+tableAnswers = flat (λ r. r .1 ++ 10 ∷ []) replayTable ++ 49 ∷ 49 ∷ 50 ∷ 9 ∷ 48 ∷ 9 ∷ 48 ∷ 10 ∷ []
 
 pub replay-table : replayText tableScript ≡ tableAnswers
 unfolding replayTable tableScript tableAnswers computing

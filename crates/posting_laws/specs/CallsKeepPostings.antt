@@ -124,7 +124,7 @@ taken-indexed S p t q (Key k) n h =
 -- "write": "the lowest free slot is taken"
 pub write-indexed : (S : Store) (x : Tx) (r : ℕ) (v : Value) → Sized S → resting S ≡ true → Indexed (write S x r v .store)
 write-indexed S x r v sized rests = either (numberOf (write S x r v .refusal))
-    (λ e. let free = none-applies (write S x r v .refusal) (writeLines S x r) (write-told S x r v) e .1 .1 .1 .1 .1 .1 .0 in
+    (λ e. let free = none-applies (write S x r v .refusal) (writeLines S x r v) (write-told S x r v) e .1 .1 .1 .1 .1 .1 .1 .0 in
     rw (write-accepted S x r v e)
     (taken-indexed S (lowestFree (S .xmin)) (x .txid .0) (baseOf S x r) v (free-no-head S sized rests free) (indexed S rests)))
     (λ n. rw (write-refused S x r v n) (indexed S rests))

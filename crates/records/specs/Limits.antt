@@ -58,6 +58,10 @@ keyEnd = 4294967296
 abbrev pub clockEnd : ℕ
 clockEnd = 18446744073709551615
 
+-- "Our key is a minute of the year, so 527,039 is the last in a leap year": document 02, wish 7
+abbrev pub lastMinute : ℕ
+lastMinute = 527039
+
 -- "Replay": "place 0 to 15"
 abbrev pub placeLimit : ℕ
 placeLimit = 16

@@ -39,6 +39,11 @@ pub enum Value {
     Key(u32),
 }
 
+impl Value {
+    // a key is a minute of the year: the last in a leap year
+    pub const LAST_MINUTE: u32 = 527039;
+}
+
 // A slot's fields stand in seven arrays at the slot's place: a free slot is all zero, and so is place 0. The posting (key, row) is
 // the number key * ROWS + row, so that rising numbers are rising postings. Active txids stand before the first 0.
 pub struct Store {
@@ -272,7 +277,8 @@ pub enum Fate {
     Standing,
 }
 
-// Each refusal carries its fate inside it. `Done`, number 0, is none; the crate `rules` gives the others their numbers, 1 to 28 in this order.
+// Each refusal carries its fate inside it. `Done`, number 0, is none; the crate `rules` gives the others their numbers, 1 to 28 in this order,
+// and 31 to the last.
 pub enum Refusal {
     Done,
     NotResting(Fate),
@@ -303,6 +309,7 @@ pub enum Refusal {
     SlotsFull(Fate),
     LockedByAnother(Fate),
     NoHead(Fate),
+    ImpossibleMinute(Fate),
 }
 
 // Source 002's CommitRecord: the txid and its final writes.

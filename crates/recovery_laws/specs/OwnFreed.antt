@@ -84,6 +84,10 @@ module _ (X : Store) (L : ℕ → List ℕ) (s : ℕ) (off : Off (X .heads) L s)
           (λ k. rw (eqb-true p s k) (set-blank (X .key) s 0))
           (λ k. let n = eqb-false p s k in
           getD-set-other (X .key) s p 0 0 n ∙ M .slots .absent p (sym (getD-set-other (X .has) s p false false n) ∙ e));
+      minute = λ p u. by (eqb p s)
+          (λ k. rw (eqb-true p s k, set-blank (X .key) s 0) (omega arith))
+          (λ k. let n = eqb-false p s k in
+          rw (getD-set-other (X .key) s p 0 0 n) (M .slots .minute p (rw (getD-set-other (X .xmin) s p 0 0 n) at u)));
     };
     below = λ p. by (eqb p s)
         (λ k. rw (eqb-true p s k, set-blank (X .xmin) s 0) (omega (arith, M .started)))

@@ -162,6 +162,7 @@ module _ (t : ℕ) (old : ℕ → Value) (act : List ℕ) (doom : ℕ) (key : Li
             unowned = F .unowned;
           };
           absent = M .slots .absent;
+          minute = M .slots .minute;
         };
         listed = M .listed;
         below = M .below;

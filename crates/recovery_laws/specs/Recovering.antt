@@ -157,6 +157,9 @@ module _ (S : Store) (L : ℕ → List ℕ) (z : Sized S) (M : Mends S L) where
       absent = λ p e. by (on seen p)
           (λ o. keep-on 0 seen (S .key) p o ∙ M .slots .absent p (sym (keep-on false seen (S .has) p o) ∙ e))
           (λ o. keep-off 0 seen (S .key) p o);
+      minute = λ p u. by (on seen p)
+          (λ o. rw (keep-on 0 seen (S .key) p o) (M .slots .minute p (rw (keep-on 0 seen (S .xmin) p o) at u)))
+          (λ o. rw (keep-off 0 seen (S .key) p o) (omega arith));
     };
     listed = record { climb = tt; past = λ t m. clash {b = false} m refl; after = λ i le. blanks 0 activeLimit i };
     below = λ p. by (on seen p)

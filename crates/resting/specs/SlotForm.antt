@@ -5,7 +5,10 @@ use mathlib.Core.List.{List, [], _∷_}
 use Prim.Native.Nat.{ℕ, _+_, _<_, _≤_}
 use native.Mathlib.Nat.{suc-inj, suc-ne-zero}
 use lib.ListN.{length, getD}
-use Rattle.records.specs.Limits.{places}
+use lib.Dec.{eqb, leb}
+use borrow.Author.Tests.{eqb-true}
+use Rattle.records.specs.Limits.{places, lastMinute}
+use Rattle.basic_laws.specs.Cases.{by}
 use Rattle.rules.specs.Lists.{every, eachOr, isZero, nonzero}
 use Rattle.fields.specs.Lent.{atPlaces, flagsAtPlaces}
 use Rattle.rules.specs.Store.{slotsInForm}
@@ -32,7 +35,7 @@ both-every (a ∷ p) (b ∷ q) e = rw (both-every p q (suc-inj e)) (regroup a b)
     regroup true false = sym (and-false (every p))
     regroup false b = refl
 
--- "A free slot is all zero; an absent key is stored as 0": the tests of one slot
+-- "A free slot is all zero; an absent key is stored as 0"; a used one's is a minute: the tests of one slot
 abbrev pub slotForm : ℕ → ℕ → ℕ → ℕ → Bool → Bool → ℕ → List Bool
 slotForm xmin xmax next key has locked owner =
     (nonzero xmin || isZero xmax)
@@ -41,7 +44,12 @@ slotForm xmin xmax next key has locked owner =
     ∷ (nonzero xmin || not locked)
     ∷ (nonzero xmin || isZero owner)
     ∷ (has || isZero key)
+    ∷ (isZero xmin || leb key lastMinute)
     ∷ []
+
+-- key 0 is a minute
+pub zero-minute : (k : ℕ) → isZero k ≡ (isZero k && leb k lastMinute)
+zero-minute k = by (eqb k 0) (λ e. rw (eqb-true k 0 e)) (λ e. rw e)
 
 module _ (xmin xmax next key : List ℕ) (has locked : List Bool) (owner : List ℕ) where
   abbrev tests : ℕ → List Bool
@@ -52,6 +60,7 @@ module _ (xmin xmax next key : List ℕ) (has locked : List Bool) (owner : List 
       ∷ eachLeft nonzero not places 0 false xmin locked i
       ∷ eachLeft nonzero isZero places 0 0 xmin owner i
       ∷ eachLeft (λ b. b) isZero places false 0 has key i
+      ∷ eachLeft isZero (λ k. leb k lastMinute) places 0 0 xmin key i
       ∷ []
 
   -- the slots from i on are in form
@@ -66,6 +75,7 @@ module _ (xmin xmax next key : List ℕ) (has locked : List Bool) (owner : List 
       ∷ eachOr nonzero not (atPlaces xmin) (flagsAtPlaces locked)
       ∷ eachOr nonzero isZero (atPlaces xmin) (atPlaces owner)
       ∷ eachOr (λ b. b) isZero (flagsAtPlaces has) (atPlaces key)
+      ∷ eachOr isZero (λ k. leb k lastMinute) (atPlaces xmin) (atPlaces key)
       ∷ [])
   unfolding formLeft eachLeft
   form-whole = refl
@@ -90,6 +100,7 @@ module _ (xmin xmax next key : List ℕ) (has locked : List Bool) (owner : List 
           each-here nonzero not places 0 false xmin locked i true h,
           each-here nonzero isZero places 0 0 xmin owner i true h,
           each-here (λ b. b) isZero places false 0 has key i true h,
+          each-here isZero (λ k. leb k lastMinute) places 0 0 xmin key i true h,
         )
         (both-every here (tests (i + 1)) refl)
 
@@ -110,7 +121,13 @@ module _ (xmin xmax next key : List ℕ) (has locked : List Bool) (owner : List 
           sym (each-end nonzero not places 0 false xmin has i _ refl h),
           (
             sym (each-end nonzero not places 0 false xmin locked i _ refl h),
-            (sym (each-end nonzero isZero places 0 0 xmin owner i _ refl h), (sym (each-end (λ b. b) isZero places false 0 has key i _ refl h), tt)),
+            (
+              sym (each-end nonzero isZero places 0 0 xmin owner i _ refl h),
+              (
+                sym (each-end (λ b. b) isZero places false 0 has key i _ refl h),
+                (sym (each-end isZero (λ k. leb k lastMinute) places 0 0 xmin key i _ refl h), tt),
+              ),
+            ),
           ),
         ),
       ),

@@ -1,4 +1,4 @@
-// The form of the slots: "A free slot is all zero; an absent key is stored as 0."
+// The form of the slots: "A free slot is all zero; an absent key is stored as 0." No used slot holds a key over the last minute.
 
 ghost use mathlib.Core.Path.{_≡_};
 ghost use mathlib.Core.Bool.{false};
@@ -11,6 +11,7 @@ ghost use Rattle.resting.specs.Lending.{lentStore};
 ghost use Rattle.resting.specs.SlotForm.{slotForm};
 use super::lent::txid_at;
 use records::SlotPtr;
+use records::Value;
 
 // One slot.
 fn slot_in_form(
@@ -26,7 +27,7 @@ fn slot_in_form(
 {
     if xmin != 0 {
         if has {
-            return true;
+            return key <= Value::LAST_MINUTE;
         }
         return key == 0;
     }

@@ -6,11 +6,11 @@ use lib.ListN.{length, getD, drop, replicate}
 use lib.Dec.{eqb, ltb, leb}
 use Rattle.records.specs.Limits.{rows, activeLimit, writeLimit, readLimit, clockEnd, places}
 use Rattle.rules.specs.Lists.{any, memb, those, pad, inOrder, firstOf, firstZero}
-use Rattle.rules.specs.Types.{Store, Tx, RowId, ReadRecord, IndexRead, Reply, Seen, Written, Found, Value, Absent, Open, Closed}
+use Rattle.rules.specs.Types.{Store, Tx, RowId, ReadRecord, IndexRead, Reply, Seen, Written, Found, Value, Absent, Key, Open, Closed}
 use Rattle.rules.specs.Types.{Refusal, NotResting, Unfit, NotActive, FoundPoisoned, ActiveFull, ClockAtEnd}
-use Rattle.rules.specs.Types.{RowTooHigh, ReadsFull, WritesFull, SlotsFull, LockedByAnother, NoHead}
+use Rattle.rules.specs.Types.{RowTooHigh, ReadsFull, WritesFull, SlotsFull, LockedByAnother, NoHead, ImpossibleMinute}
 use Rattle.records.specs.Zero.{onlyTxid, zeroTx}
-use Rattle.rules.specs.Store.{valueAt, carries, keyOf, rowOf, stripeOf, postingsOf, activeTxids}
+use Rattle.rules.specs.Store.{valueAt, carries, impossible, keyOf, rowOf, stripeOf, postingsOf, activeTxids}
 use Rattle.rules.specs.Transaction.{writesOf, readsOf, indexReadsOf, sees, lastOwn, withWrites, withReads, withIndexReads}
 use Rattle.rules.specs.Chains.{chainFrom}
 use Rattle.rules.specs.Admitted.{resting}
@@ -26,7 +26,7 @@ admits S x more = tries (
     ∷ refuse (not (memb (x .txid .0) (activeTxids (S .active)))) (NotActive Closed)
     ∷ more)
 
--- "Others: 1, 2, 3, 9, then 23 to 28 rising"
+-- "Others: 1, 2, 3, 9, then 23 to 28 rising"; 31 is asked "after 25" by write, "after 9" by lookup
 abbrev pub admitsHealthy : Store → Tx → List Try → Refusal
 admitsHealthy S x more = admits S x (refuse (S .poisoned) (FoundPoisoned Open) ∷ more)
 
@@ -108,6 +108,7 @@ write S x r v =
     let why = admitsHealthy S x (
     refuse (leb rows r) (RowTooHigh Open)
     ∷ refuse (leb writeLimit (x .«write_count»)) (WritesFull Open)
+    ∷ refuse (impossible v) (ImpossibleMinute Open)
     ∷ refuse (eqb p 0) (SlotsFull Open)
     ∷ []) in
     cond (isDone why)
@@ -144,7 +145,7 @@ unfoldable pub lookup : Store → Tx → ℕ → Found
 lookup S x k =
     let l = recordReads S x (candidates S x k) (readsOf x) in
     let t = getD (S .stamps) (stripeOf k) 0 in
-    let why = admitsHealthy S x (refuse (ltb readLimit (length l)) (ReadsFull Open) ∷ []) in
+    let why = admitsHealthy S x (refuse (impossible (Key k)) (ImpossibleMinute Open) ∷ refuse (ltb readLimit (length l)) (ReadsFull Open) ∷ []) in
     cond (isDone why)
     (record {
       refusal = why;

@@ -6,7 +6,7 @@ use lib.Dec.{eqb}
 use Rattle.rules.specs.Types.{Fate, Open, Closed, Undone, Refusal, Done, NotResting, Unfit, NotActive, StepFailed, PrepareFailed}
 use Rattle.rules.specs.Types.{PreparePanicked, Conflict, BoundDurably, FoundPoisoned, InsertFailed, CallbackFailed, CallbackPanicked}
 use Rattle.rules.specs.Types.{RemoveFailed, PublishFailed, RecycleFailed, FinishFailed, StampFailed, CutOff, CleanupFailed, NotRepairable}
-use Rattle.rules.specs.Types.{ActiveFull, ClockAtEnd, RowTooHigh, ReadsFull, WritesFull, SlotsFull, LockedByAnother, NoHead}
+use Rattle.rules.specs.Types.{ActiveFull, ClockAtEnd, RowTooHigh, ReadsFull, WritesFull, SlotsFull, LockedByAnother, NoHead, ImpossibleMinute}
 
 abbrev pub numberOf : Refusal → ℕ
 numberOf Done = 0
@@ -38,6 +38,7 @@ numberOf (WritesFull f) = 25
 numberOf (SlotsFull f) = 26
 numberOf (LockedByAnother f) = 27
 numberOf (NoHead f) = 28
+numberOf (ImpossibleMinute f) = 31
 
 -- "Each refusal carries its fate inside it"; an answer 0 has no fate, and is left open
 abbrev pub fateIn : Refusal → Fate
@@ -70,6 +71,7 @@ fateIn (WritesFull f) = f
 fateIn (SlotsFull f) = f
 fateIn (LockedByAnother f) = f
 fateIn (NoHead f) = f
+fateIn (ImpossibleMinute f) = f
 
 -- "poisoned and undone where another call poisons, even a poisoned store; closed .. where the transaction was aborted; else open"
 abbrev pub fate : Bool → Bool → Fate

@@ -4,7 +4,7 @@ use mathlib.Core.List.{List, [], _∷_}
 use Prim.Native.Nat.{ℕ, _+_, _*_, _/_, _%_}
 use lib.ListN.{length, getD, take, drop}
 use lib.Dec.{eqb, ltb, leb}
-use Rattle.records.specs.Limits.{rows, postingLimit, stripes, partitions, keyEnd}
+use Rattle.records.specs.Limits.{rows, postingLimit, stripes, partitions, keyEnd, lastMinute}
 use Rattle.rules.specs.Lists.{all, every, eachOr, nonzeroFrom, allZero, isZero, nonzero, beforeZero, rising}
 use Rattle.rules.specs.Types.{Store, Value, Absent, Key}
 
@@ -30,7 +30,12 @@ sameValue (Key j) (Key k) = eqb j k
 abbrev pub carries : List ℕ → List Bool → ℕ → ℕ → Bool
 carries key has p k = sameValue (valueAt key has p) (Key k)
 
--- "A free slot is all zero; an absent key is stored as 0." Place 0 is free.
+-- document 02, wish 7: "Our key is a minute of the year, so 527,039 is the last": "a larger key"
+abbrev pub impossible : Value → Bool
+impossible Absent = false
+impossible (Key k) = ltb lastMinute k
+
+-- "A free slot is all zero; an absent key is stored as 0." Place 0 is free. "A store holding [a larger key] in any used slot is not repairable"
 unfoldable pub slotsInForm : Store → Bool
 slotsInForm S = every (
     not (used (S .xmin) 0)
@@ -40,6 +45,7 @@ slotsInForm S = every (
     ∷ eachOr nonzero not (S .xmin) (S .locked)
     ∷ eachOr nonzero isZero (S .xmin) (S .owner)
     ∷ eachOr (λ b. b) isZero (S .has) (S .key)
+    ∷ eachOr isZero (λ k. leb k lastMinute) (S .xmin) (S .key)
     ∷ [])
 
 -- "A posting is (key, row)": one number, so that the order of postings is that of numbers

@@ -28,3 +28,4 @@ pub use Rattle.records.specs.declared.Refusal.the-variants.{Done, NotResting, U
 pub use Rattle.records.specs.declared.Refusal.the-variants.{BoundDurably, FoundPoisoned, InsertFailed, CallbackFailed, CallbackPanicked, RemoveFailed}
 pub use Rattle.records.specs.declared.Refusal.the-variants.{PublishFailed, RecycleFailed, FinishFailed, StampFailed, CutOff, CleanupFailed, NotRepairable}
 pub use Rattle.records.specs.declared.Refusal.the-variants.{ActiveFull, ClockAtEnd, RowTooHigh, ReadsFull, WritesFull, SlotsFull, LockedByAnother, NoHead}
+pub use Rattle.records.specs.declared.Refusal.the-variants.{ImpossibleMinute}

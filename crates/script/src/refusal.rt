@@ -37,5 +37,6 @@ pub fn number_of(why: Refusal) -> u64
         Refusal::SlotsFull(_) => 26,
         Refusal::LockedByAnother(_) => 27,
         Refusal::NoHead(_) => 28,
+        Refusal::ImpossibleMinute(_) => 31,
     }
 }

@@ -3,6 +3,7 @@
 -- "Store and transaction"; what one store changes
 pub mod StoreSays
 pub mod PaperNumbers
+pub mod LeapYear
 -- "Admitted stores"
 pub mod AdmittedSays
 -- "Other calls" and recovery; what a transaction sees and reads

@@ -22,6 +22,7 @@ paper-numbers = record {
   keys = refl;
   largest = refl;
   placesOfReplay = refl;
+  minutes = refl;
 }
 
 -- "Key k has stripe k mod 16; row id r has partition r mod 16."

@@ -38,7 +38,7 @@ Demand1 = (S : Store) (x : Tx) (logged : Bool) (plan : Schedule) (cut : Cut) →
 pub record Others (S : Store) (x : Tx) : Type 0 where
   pub begins : Told (begin S .refusal) [] (beginLines S)
   pub reads : (r : ℕ) → Told (read S x r .refusal) [] (readLines S x r)
-  pub writes : (r : ℕ) (v : Value) → Told (write S x r v .refusal) [] (writeLines S x r)
+  pub writes : (r : ℕ) (v : Value) → Told (write S x r v .refusal) [] (writeLines S x r v)
   pub looks : (k : ℕ) → Told (lookup S x k .refusal) [] (lookupLines S x k)
   pub locks : (r : ℕ) → Told (rowLock S x r .refusal) [] (rowLockLines S x r)
   pub aborts : Told (abort S x .refusal) [] (firstLines S x)

@@ -18,3 +18,5 @@ pub mod FaultWords
 pub mod OtherNumbers
 -- The three demands.
 pub mod Demands
+-- Document 02: wish 7.
+pub mod MinuteWords

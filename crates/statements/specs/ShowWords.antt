@@ -5,7 +5,7 @@ use mathlib.Core.List.{List}
 use mathlib.Core.Logic.{_↔_, _≢_, _⊎_}
 use Prim.Native.Nat.{ℕ, suc, _%_, _≤_, _<_}
 use lib.ListN.{length, getD}
-use Rattle.records.specs.Limits.{rows, stripes, activeLimit, readLimit, keyEnd, clockEnd}
+use Rattle.records.specs.Limits.{rows, stripes, activeLimit, readLimit, keyEnd, clockEnd, lastMinute}
 use Rattle.records.specs.Zero.{emptyStore}
 use Rattle.rules.specs.Lists.{memb}
 use Rattle.rules.specs.Types.{Store, Tx, Schedule, Cut, Uncut, Value, Key, Found}
@@ -48,7 +48,7 @@ pub data AfterReads (U : Store) (x : Tx) : ℕ → Tx → Type 0 where
   again : {n : ℕ} {y : Tx} → AfterReads U x n y → (r : ℕ) → r < rows → AfterReads U x (suc n) (read U y r .tx)
 
 -- T shows these values: begin is accepted; then a read of any row gives its value, as often as a transaction can record reads, and a lookup of any
--- key exactly the rows with it, or 24 exactly where they are more than a transaction can record
+-- minute exactly the rows with it, or 24 exactly where they are more than a transaction can record; of a key that is no minute, 31
 pub record Shown (T : Store) (value : ℕ → Value) : Type 0 where
   pub begins : numberOf (begin T .refusal) ≡ 0
   pub reads : (n : ℕ) (y : Tx) → AfterReads (begin T .store) (begin T .tx) n y → n < readLimit
@@ -56,8 +56,9 @@ pub record Shown (T : Store) (value : ℕ → Value) : Type 0 where
   pub looks : (k : ℕ) → let a = lookup (begin T .store) (begin T .tx) k in
       (found : List ℕ)
       × RowsWith value k found
-      × (length found ≤ readLimit → Answered T k found a)
+      × (k ≤ lastMinute → length found ≤ readLimit → Answered T k found a)
       × ((numberOf (a .refusal) ≡ 24) ↔ (readLimit < length found))
+      × ((numberOf (a .refusal) ≡ 31) ↔ (lastMinute < k))
 
 -- AT ANY TIME: an unpoisoned store at rest with room for one more transaction shows what its rows hold, whoever else is active
 abbrev pub RestingShows : Type 0

@@ -6,7 +6,7 @@ use mathlib.Core.Logic.{_≢_, _⊎_, _↔_}
 use Prim.Native.Nat.{ℕ, suc, _+_, _*_, _^_, _≤_, _<_}
 use lib.ListN.{length, getD}
 use Rattle.records.specs.Limits.{rows, slots, places, postingLimit, stripes, partitions, activeLimit, writeLimit, readLimit, indexReadLimit}
-use Rattle.records.specs.Limits.{savepointLimit, stepCount, keyEnd, clockEnd, placeLimit}
+use Rattle.records.specs.Limits.{savepointLimit, stepCount, keyEnd, clockEnd, lastMinute, placeLimit}
 use Rattle.rules.specs.Lists.{memb}
 use Rattle.rules.specs.Types.{Store, Value, Absent, Key}
 use Rattle.rules.specs.Store.{posting, keyOf, rowOf}
@@ -188,6 +188,8 @@ pub record PaperNumbers : Type 0 where
   pub keys : keyEnd ≡ 2 ^ 32
   pub largest : suc clockEnd ≡ 2 ^ 64
   pub placesOfReplay : placeLimit ≡ 16
+  -- document 02, wish 7: "527,039 is the last in a leap year"
+  pub minutes : lastMinute ≡ 527039
 
 -- the empty store, durably bound or not: no row has a version, every slot is free, no posting, guard, stamp or active txid; "A 64-bit clock from 1"
 pub record EmptyStore (durable : Bool) (S : Store) : Type 0 where

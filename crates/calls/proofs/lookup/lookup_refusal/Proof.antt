@@ -12,11 +12,21 @@ returns c = unless-kept _ _ (sym (c .before .is-done .ensures) ∙ not-true _ (c
 
 returns-2 : tie.Need-returns-2
 unfolding lookupTries
-returns-2 c = unless-more _ _ _ (sym (c .before .before .is-done .ensures) ∙ not-false _ (c .before .if1 .left)) (rw (c .if2 .taken))
+returns-2 c =
+    unless-more _ _ _ (sym (c .before .before .before .is-done .ensures) ∙ not-false _ (c .before .before .if1 .left))
+    (rw (sym (c .before .impossible .ensures) ∙ c .if2 .taken))
 
 returns-3 : tie.Need-returns-3
 unfolding lookupTries
-returns-3 c = unless-more _ _ _ (sym (c .before .before .is-done .ensures) ∙ not-false _ (c .before .if1 .left)) (rw (c .if2 .left))
+returns-3 c =
+    unless-more _ _ _ (sym (c .before .before .before .before .is-done .ensures) ∙ not-false _ (c .before .before .before .if1 .left))
+    (rw (sym (c .before .before .impossible .ensures) ∙ c .before .if2 .left, c .if3 .taken))
+
+returns-4 : tie.Need-returns-4
+unfolding lookupTries
+returns-4 c =
+    unless-more _ _ _ (sym (c .before .before .before .before .is-done .ensures) ∙ not-false _ (c .before .before .before .if1 .left))
+    (rw (sym (c .before .before .impossible .ensures) ∙ c .before .if2 .left, c .if3 .left))
 
 pub lookup-refusal-spec : {M : Type 1} → statement M
-lookup-refusal-spec = tie.close (tie.spec (λ c κs. search needs) returns returns-2 returns-3)
+lookup-refusal-spec = tie.close (tie.spec (λ c κs. search needs) returns (λ c κs. search needs) returns-2 returns-3 returns-4)

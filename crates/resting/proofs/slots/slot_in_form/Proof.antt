@@ -1,18 +1,23 @@
 -- `slot_in_form` meets its contract: a case for each of its ends.
 use mathlib.Core.Path.{sym}
 use mathlib.Core.Bool.{and-true}
+use lib.Dec.{leb}
+use Rattle.records.specs.Limits.{lastMinute}
 use Rattle.rules.specs.Lists.{every}
 use Rattle.fields.specs.Facts.{zero-yes, zero-no, nonzero-yes, nonzero-no}
+use Rattle.resting.specs.SlotForm.{zero-minute}
 use Rattle.resting.proofs.slots.slot_in_form.Statement.{statement}
 use Rattle.resting.proofs.slots.slot_in_form.Tie as tie
 
 returns : tie.Need-returns
 unfolding every
-returns c = rw (nonzero-yes (c .before .if1 .taken), c .if2 .taken)
+returns c = rw (nonzero-yes (c .before .if1 .taken), zero-no (c .before .if1 .taken), c .if2 .taken) (sym (and-true _))
 
 returns-2 : tie.Need-returns-2
 unfolding every
-returns-2 c = rw (nonzero-yes (c .before .if1 .taken), c .if2 .left) (sym (and-true _))
+returns-2 c =
+    rw (nonzero-yes (c .before .if1 .taken), zero-no (c .before .if1 .taken), c .if2 .left, and-true (leb _ lastMinute))
+    (zero-minute (c .before .before .args .key))
 
 returns-3 : tie.Need-returns-3
 unfolding every
@@ -56,6 +61,7 @@ returns-8 c = rw (
   c .before .before .if5 .left,
   c .before .if6 .left,
   zero-yes (c .if7 .left),
+  zero-yes (c .before .before .before .before .before .if1 .left),
 ) (sym (and-true _))
 
 pub slot-in-form-spec : {M : Type 1} → statement M
