@@ -16,7 +16,6 @@ use Rattle.rules.specs.Transaction.{writesOf, readsOf, sees, lastOwn}
 use Rattle.rules.specs.Chains.{chainFrom}
 use Rattle.rules.specs.Admitted.{resting}
 use Rattle.rules.specs.Fit.{fit}
-use Rattle.statements.specs.Table.{None}
 use Rattle.rules.specs.Numbers.{numberOf}
 use Rattle.rules.specs.Puts.{putEnter, putClock, applyAll}
 use Rattle.rules.specs.Calls.{begun, begin, visibleVersion, readPtr, recordRead, read, candidates, recordReads, matching, asRow, lookup}
@@ -40,6 +39,8 @@ use Rattle.recovery_laws.specs.Unfinished.{active-in, active-unfinished}
 use Rattle.sentences.specs.FirstLine.{applies-none}
 use Rattle.sentences.specs.Refusals.{begin-told, begin-accepted, read-told, read-accepted, lookup-told, lookup-accepted}
 use Rattle.call_laws.specs.Keeps.{Keeps}
+use Rattle.call_laws.specs.Passed.{Admitted}
+use Rattle.call_laws.specs.LookupLaws.{lookup-impossible, minute-passes}
 use Rattle.posting_laws.specs.Written.{rowsOf}
 use Rattle.call_laws.specs.BeginLaws.{begin-keeps}
 use Rattle.call_laws.specs.KeepsReads.{read-keeps}
@@ -264,23 +265,9 @@ module _ (T : Store) (z : Sized T) (rest : resting T ≡ true) (sound : T .poiso
         first-of [] lt = absurd (omega arith)
         first-of (r ∷ l) lt = (r, mem-here r l)
 
-    -- the tests that come before 31 are passed
-    early-tests : None (not (resting (entered T)) ∷ not (fit (entered T) (begun T))
-        ∷ not (memb (begun T .txid .0) (activeTxids (entered T .active))) ∷ T .poisoned ∷ [])
-    early-tests = (rw (keeps .rests), (rw (keeps .fits), (rw (keeps .active), (sound, tt))))
-
-    -- 31 exactly where the key is no minute
-    no-minute : (numberOf (lookup (entered T) (begun T) k .refusal) ≡ 31) ↔ (lastMinute < k)
-    no-minute =
-        let t = lookup-told (entered T) (begun T) k .2 .2 .2 .2 .0 in (
-          λ h. ltb-true lastMinute k (t .0 h .1),
-          λ lt. t .1 (early-tests, lt-ltb lastMinute k lt),
-        )
-
-    -- a minute passes that test too
-    later-tests : k ≤ lastMinute → None (not (resting (entered T)) ∷ not (fit (entered T) (begun T))
-        ∷ not (memb (begun T .txid .0) (activeTxids (entered T .active))) ∷ T .poisoned ∷ ltb lastMinute k ∷ [])
-    later-tests le = let e = early-tests in (e .0, (e .1 .0, (e .1 .1 .0, (e .1 .1 .1 .0, (le-ltb lastMinute k le, tt)))))
+    -- it passes 1, 2, 3 and 9
+    admitted : Admitted (entered T) (begun T)
+    admitted = record { rests = keeps .rests; fits = keeps .fits; active = keeps .active }
 
     -- 24 exactly where the rows are too many
     too-many : (numberOf (lookup (entered T) (begun T) k .refusal) ≡ 24) ↔ (readLimit < length (candidates (entered T) (begun T) k))
@@ -288,14 +275,14 @@ module _ (T : Store) (z : Sized T) (rest : resting T ≡ true) (sound : T .poiso
         let n = length (recordReads (entered T) (begun T) (candidates (entered T) (begun T) k) (readsOf (begun T))) in
         let t = lookup-told (entered T) (begun T) k .2 .2 .2 .2 .2 .0 in (
           λ h. omega (arith, as-many, ltb-true readLimit n (t .0 h .1)),
-          λ lt. t .1 (later-tests (in-year (omega arith)), lt-ltb readLimit n (omega (arith, as-many))),
+          λ lt. t .1 (minute-passes (entered T) (begun T) admitted sound k (in-year (omega arith)), lt-ltb readLimit n (omega (arith, as-many))),
         )
 
     -- else it is accepted
     enough : k ≤ lastMinute → length (candidates (entered T) (begun T) k) ≤ readLimit → numberOf (lookup (entered T) (begun T) k .refusal) ≡ 0
     enough minute le =
         let n = length (recordReads (entered T) (begun T) (candidates (entered T) (begun T) k) (readsOf (begun T))) in
-        let e = later-tests minute in
+        let e = minute-passes (entered T) (begun T) admitted sound k minute in
         applies-none (lookup (entered T) (begun T) k .refusal) (lookupLines (entered T) (begun T) k) (lookup-told (entered T) (begun T) k)
         (e .0, (e .1 .0, (e .1 .1 .0, (e .1 .1 .1 .0, (e .1 .1 .1 .1 .0, (le-ltb readLimit n (omega (arith, as-many)), tt))))))
 
@@ -362,6 +349,6 @@ store-shows T z rest sound few early value same =
         },
         answers T z rest sound few early k,
         too-many T z rest sound few early k,
-        no-minute T z rest sound few early k,
+        lookup-impossible (entered T) (begun T) (admitted T z rest sound few early k) sound k,
       );
     }

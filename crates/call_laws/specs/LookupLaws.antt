@@ -206,6 +206,11 @@ module _ (S : Store) (x : Tx) (P : Admitted S x) (healthy : S .poisoned ≡ fals
       let t = lookup-told S x k .2 .2 .2 .2 .0 in
       (λ h. ltb-true lastMinute k (t .0 h .1), λ lt. t .1 (firsts, lt-ltb lastMinute k lt))
 
+  -- a minute passes 31 too
+  pub minute-passes : (k : ℕ) → k ≤ lastMinute → None (not (resting S) ∷ not (fit S x) ∷ not (memb (x .txid .0) (activeTxids (S .active))) ∷ S .poisoned
+      ∷ ltb lastMinute k ∷ [])
+  minute-passes k le = let f = firsts in (f .0, (f .1 .0, (f .1 .1 .0, (f .1 .1 .1 .0, (le-ltb lastMinute k le, tt)))))
+
 -- "24 if they don't all fit": of a minute, exactly where what its candidates would record doesn't fit, and else it is accepted
 module _ (S : Store) (x : Tx) (L : ℕ → List ℕ) (z : Sized S) (R : Rests S L) (P : Admitted S x) (healthy : S .poisoned ≡ false) (k : ℕ) where
   over : (ltb readLimit (length (recordReads S x (candidates S x k) (readsOf x))) ≡ true) ↔ LookupTooMany S x k L
@@ -220,10 +225,9 @@ module _ (S : Store) (x : Tx) (L : ℕ → List ℕ) (z : Sized S) (R : Rests S 
 
   pub lookup-full : (numberOf (lookup S x k .refusal) ≡ 24) ↔ ((k ≤ lastMinute) × LookupTooMany S x k L)
   lookup-full =
-      let t = lookup-told S x k .2 .2 .2 .2 .2 .0 in
-      let f = firsts S x P healthy in (
+      let t = lookup-told S x k .2 .2 .2 .2 .2 .0 in (
         λ h. let n = t .0 h in (ltb-false lastMinute k (n .0 .1 .1 .1 .1 .0), over .0 (n .1)),
-        λ m. t .1 ((f .0, (f .1 .0, (f .1 .1 .0, (f .1 .1 .1 .0, (le-ltb lastMinute k (m .0), tt))))), over .1 (m .1)),
+        λ m. t .1 (minute-passes S x P healthy k (m .0), over .1 (m .1)),
       )
 
   pub lookup-done : (numberOf (lookup S x k .refusal) ≡ 0) ↔ ((k ≤ lastMinute) × (LookupTooMany S x k L → ⊥))

@@ -6,22 +6,19 @@ use Prim.Native.Nat.{ℕ, suc}
 use lib.ListN.{length, getD, replicate}
 use lib.Dec.{eqb, ltb, leb}
 use borrow.Author.Tests.{eq-eqb, ne-eqb}
-use Rattle.records.specs.Limits.{rows, activeLimit, writeLimit, readLimit, clockEnd, lastMinute}
+use Rattle.records.specs.Limits.{rows, lastMinute}
 use Rattle.records.specs.Zero.{onlyTxid, zeroTx}
-use Rattle.rules.specs.Lists.{memb, pad}
-use Rattle.rules.specs.Types.{Store, Tx, Value, Absent, Key, Reply, Seen, Written, Found, Open, Closed, NotResting, Unfit, NotActive}
-use Rattle.rules.specs.Types.{FoundPoisoned, ActiveFull, ClockAtEnd, RowTooHigh, ReadsFull, WritesFull, SlotsFull, LockedByAnother, NoHead, ImpossibleMinute}
-use Rattle.rules.specs.Store.{valueAt, impossible, stripeOf, activeTxids}
+use Rattle.rules.specs.Lists.{pad}
+use Rattle.rules.specs.Types.{Store, Tx, Value, Absent, Key, Reply, Seen, Written, Found}
+use Rattle.rules.specs.Store.{valueAt, impossible, stripeOf}
 use Rattle.rules.specs.Transaction.{writesOf, readsOf, indexReadsOf, sees, withWrites, withReads, withIndexReads}
-use Rattle.rules.specs.Admitted.{resting}
-use Rattle.rules.specs.Fit.{fit}
 use Rattle.rules.specs.Numbers.{numberOf, tries}
 use Rattle.rules.specs.Puts.{putEnter, putClock, putLock, takeSlot, applyAll, abortPuts}
 use Rattle.rules.specs.Calls.{admits, begun, begin, readPtr, recordRead, read, lowestFree, baseOf, write, candidates}
-use Rattle.rules.specs.Calls.{recordReads, recordStamp, matching, asRow, lookup, lockedByAnother, rowLock, abort}
-use Rattle.statements.specs.OtherNumbers.{firstLines, healthyLines, beginLines, readLines, writeLines, lookupLines, rowLockLines}
+use Rattle.rules.specs.Calls.{recordReads, recordStamp, matching, asRow, lookup, rowLock, abort}
+use Rattle.statements.specs.OtherNumbers.{firstLines, beginLines, readLines, writeLinesOf, writeLines, lookupLines, rowLockLines}
 use Rattle.statements.specs.StoreWords.{storedKey}
-use Rattle.statements.specs.Table.{Line, line, Told}
+use Rattle.statements.specs.Table.{Told}
 use Rattle.sentences.specs.FirstLine.{triesOf, told, refusal-is, refused, accepted}
 
 -- what an accepted lookup has added to the transaction
@@ -74,18 +71,10 @@ module _ (S : Store) (x : Tx) where
   unfolding read admits
   read-accepted r h = rw (read-why r) (accepted (λ (a : Seen). a .refusal) (tries (triesOf (readLines S x r))) _ _ refl refl h)
 
-  -- write: its lines as the call asks them, a value and not its stored key
-  abbrev askedLines : ℕ → Value → List Line
-  askedLines r v = healthyLines S x (
-      line 23 (RowTooHigh Open) (leb rows r)
-      ∷ line 25 (WritesFull Open) (leb writeLimit (x .«write_count»))
-      ∷ line 31 (ImpossibleMinute Open) (impossible v)
-      ∷ line 26 (SlotsFull Open) (eqb (lowestFree (S .xmin)) 0)
-      ∷ [])
-
-  write-why : (r : ℕ) (v : Value) → write S x r v .refusal ≡ tries (triesOf (askedLines r v))
+  -- write: the call asks the value, its table the key that is stored
+  write-why : (r : ℕ) (v : Value) → write S x r v .refusal ≡ tries (triesOf (writeLinesOf S x r (impossible v)))
   unfolding write admits
-  write-why r v = refusal-is (λ (a : Written). a .refusal) (tries (triesOf (askedLines r v))) _ _ refl refl
+  write-why r v = refusal-is (λ (a : Written). a .refusal) (tries (triesOf (writeLinesOf S x r (impossible v)))) _ _ refl refl
 
   pub write-told : (r : ℕ) (v : Value) → Told (write S x r v .refusal) [] (writeLines S x r v)
   write-told r v = rw (write-why r v, larger v) (told (writeLines S x r v) refl)
@@ -93,7 +82,7 @@ module _ (S : Store) (x : Tx) where
   pub write-refused : (r : ℕ) (v : Value) → (numberOf (write S x r v .refusal) ≡ 0 → ⊥)
       → write S x r v ≡ record { refusal = write S x r v .refusal; slot = record { 0 = 0 }; store = S; tx = x }
   unfolding write admits
-  write-refused r v h = rw (write-why r v) (refused (λ (a : Written). a .refusal) (tries (triesOf (askedLines r v))) _ _ refl refl h)
+  write-refused r v h = rw (write-why r v) (refused (λ (a : Written). a .refusal) (tries (triesOf (writeLinesOf S x r (impossible v)))) _ _ refl refl h)
 
   pub write-accepted : (r : ℕ) (v : Value) → numberOf (write S x r v .refusal) ≡ 0
       → write S x r v ≡ record {
@@ -103,7 +92,7 @@ module _ (S : Store) (x : Tx) where
         tx = withWrites (writesOf x ++ record { row = record { 0 = r }; base = record { 0 = baseOf S x r }; new = record { 0 = lowestFree (S .xmin) } } ∷ []) x;
       }
   unfolding write admits
-  write-accepted r v h = rw (write-why r v) (accepted (λ (a : Written). a .refusal) (tries (triesOf (askedLines r v))) _ _ refl refl h)
+  write-accepted r v h = rw (write-why r v) (accepted (λ (a : Written). a .refusal) (tries (triesOf (writeLinesOf S x r (impossible v)))) _ _ refl refl h)
 
   -- lookup
   lookup-why : (k : ℕ) → lookup S x k .refusal ≡ tries (triesOf (lookupLines S x k))

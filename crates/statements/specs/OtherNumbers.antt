@@ -1,5 +1,5 @@
 -- "Numbers seen" for the calls beside commit: when each call gives which of 1, 2, 3, 9, 21 to 28 and 31, and with which fate.
-use mathlib.Core.Bool.{not}
+use mathlib.Core.Bool.{Bool, not}
 use mathlib.Core.List.{List, [], _∷_, _++_}
 use Prim.Native.Nat.{ℕ}
 use lib.ListN.{length, getD}
@@ -47,13 +47,17 @@ readLines S x r = healthyLines S x (
 
 -- a row over the last; "writes full; no free slot"; between them document 02's wish 7: "a larger key is refused with 31, after 25 and before the
 -- search for a slot"
-abbrev pub writeLines : Store → Tx → ℕ → Value → List Line
-writeLines S x r v = healthyLines S x (
+abbrev pub writeLinesOf : Store → Tx → ℕ → Bool → List Line
+writeLinesOf S x r larger = healthyLines S x (
     line 23 (RowTooHigh Open) (leb rows r)
     ∷ line 25 (WritesFull Open) (leb writeLimit (x .«write_count»))
-    ∷ line 31 (ImpossibleMinute Open) (ltb lastMinute (storedKey v))
+    ∷ line 31 (ImpossibleMinute Open) larger
     ∷ line 26 (SlotsFull Open) (eqb (lowestFree (S .xmin)) 0)
     ∷ [])
+
+-- larger than the last minute; an absent key is stored as 0
+abbrev pub writeLines : Store → Tx → ℕ → Value → List Line
+writeLines S x r v = writeLinesOf S x r (ltb lastMinute (storedKey v))
 
 -- wish 7: "Lookup of such a key gets the same number, after 9"; "24 if they don't all fit"; in words: `LookupTooMany` (ReadWords), by `lookup-full`
 -- (call_laws)
