@@ -73,9 +73,9 @@ counts-say x =
     (more _ _ (each-place 0 isZero (λ t. t ≡ 0) (λ t. same-number t 0) (drop (x .«snapshot_count») (x .snapshot)))
     (last _ (each-place 0 isZero (λ n. n ≡ 0) (λ n. same-number n 0) (drop (x .«savepoint_count») (x .savepoints))))))))))))
 
--- "rows below" the limit; "read pointers 1 to" the last slot
+-- "rows below" the limit; "read pointers 1 to" the last slot; document 02's wish 2: or "pointer 0, with xmin 0"
 abbrev pub ReadFits : ReadRecord → Type 0
-ReadFits r = (r .row .0 < rows) × ((1 ≤ r .ptr .0) × (r .ptr .0 ≤ slots))
+ReadFits r = (r .row .0 < rows) × (((1 ≤ r .ptr .0) × (r .ptr .0 ≤ slots)) ⊎ ((r .ptr .0 ≡ 0) × (r .xmin .0 ≡ 0)))
 
 -- "bases 0 to" the last slot; "each new pointer .. used, off every chain, with xmin the txid, next the base"
 abbrev pub WriteFits : Store → (ℕ → List ℕ) → ℕ → Write → Type 0
@@ -142,7 +142,8 @@ unfolding fit
 fit-says S L z M x =
     rw (writes-pairs (writesOf x), stripes-pairs (indexReadsOf x))
     (more _ _ (counts-say x)
-    (more _ _ (each-place noRead readFit ReadFits (λ r. more _ _ (below _ _) (more _ _ (at-most _ _) (last _ (at-most _ _)))) (readsOf x))
+    (more _ _ (each-place noRead readFit ReadFits (λ r. more _ _ (below _ _)
+    (last _ (either _ _ (both _ _ (at-most _ _) (at-most _ _)) (both _ _ (same-number _ _) (same-number _ _))))) (readsOf x))
     (more _ _ (each-place noWrite _ (WriteFits S L (x .txid .0)) (λ w.
     more _ _ (below _ _)
     (more _ _ (at-most _ _)

@@ -34,6 +34,23 @@ rows-below : (r : ℕ) (l : List ℕ) → memb r (map rowOf l) ≡ true → r < 
 rows-below r [] m = clash {b = false} m refl
 rows-below r (c ∷ l) m = or-true (eqb r (rowOf c)) (memb r (map rowOf l)) m (λ e. omega (arith, eqb-true r (rowOf c) e)) (λ e. rows-below r l e)
 
+-- the rows that a fit transaction writes are below the limit
+pub written-below : (S : Store) (x : Tx) → fit S x ≡ true → (r : ℕ) → any (ofRow r) (writesOf x) ≡ true → r < rows
+written-below S x f r m = go (writesOf x) (fit-parts S x f .writes) m
+  where
+    go : (ws : List Write) → all (writeFit (S .xmin) (S .next) (walk (S .heads) (S .next) .seen) (x .txid .0)) ws ≡ true → any (ofRow r) ws ≡ true → r < rows
+    go [] h m = clash {b = false} m refl
+    go (w ∷ ws) h m =
+        let g = writeFit (S .xmin) (S .next) (walk (S .heads) (S .next) .seen) (x .txid .0) in
+        let a = and-true (g w) (all g ws) h in
+        or-true (ofRow r w) (any (ofRow r) ws) m
+        (λ e. omega (
+          arith,
+          eqb-true (w .row .0) r e,
+          ltb-true (w .row .0) rows (write-parts (S .xmin) (S .next) (walk (S .heads) (S .next) .seen) (x .txid .0) w (a .0) .row),
+        ))
+        (λ e. go ws (a .1) e)
+
 module _ (S : Store) (x : Tx) (k : ℕ) where
   -- "rows from postings of the key and own writes"
   pub candidate-is : (r : ℕ) → r < rows → memb r (candidates S x k) ≡ (memb (posting k r) (postingsOf S) || any (ofRow r) (writesOf x))
@@ -61,21 +78,6 @@ module _ (S : Store) (x : Tx) (k : ℕ) where
       )
 
   module _ (f : fit S x ≡ true) where
-    -- the rows of fit writes are below the limit
-    own-below : (r : ℕ) (ws : List Write) → all (writeFit (S .xmin) (S .next) (walk (S .heads) (S .next) .seen) (x .txid .0)) ws ≡ true
-        → any (ofRow r) ws ≡ true → r < rows
-    own-below r [] h m = clash {b = false} m refl
-    own-below r (w ∷ ws) h m =
-        let g = writeFit (S .xmin) (S .next) (walk (S .heads) (S .next) .seen) (x .txid .0) in
-        let a = and-true (g w) (all g ws) h in
-        or-true (ofRow r w) (any (ofRow r) ws) m
-        (λ e. omega (
-          arith,
-          eqb-true (w .row .0) r e,
-          ltb-true (w .row .0) rows (write-parts (S .xmin) (S .next) (walk (S .heads) (S .next) .seen) (x .txid .0) w (a .0) .row),
-        ))
-        (λ e. own-below r ws (a .1) e)
-
     -- so every candidate is below the limit
     pub candidate-below : (r : ℕ) → memb r (candidates S x k) ≡ true → r < rows
     unfolding candidates
@@ -84,4 +86,4 @@ module _ (S : Store) (x : Tx) (k : ℕ) where
         let written = map (λ w. w .row .0) (writesOf x) in
         or-true (memb r keyed) (memb r written) (sym (mem-inOrder (keyed ++ written) r ∙ mem-append keyed written r) ∙ m)
         (λ e. rows-below r (those (λ c. eqb (keyOf c) k) (postingsOf S)) e)
-        (λ e. own-below r (writesOf x) (fit-parts S x f .writes) (sym (mem-rows r (writesOf x)) ∙ e))
+        (λ e. written-below S x f r (sym (mem-rows r (writesOf x)) ∙ e))

@@ -15,11 +15,11 @@ use Rattle.rules.specs.Store.{sameValue, carries, activeTxids}
 use Rattle.rules.specs.Transaction.{writesOf, readsOf, sees, lastOwn}
 use Rattle.rules.specs.Chains.{chainFrom}
 use Rattle.rules.specs.Admitted.{resting}
-use Rattle.rules.specs.Fit.{fit}
 use Rattle.rules.specs.Numbers.{numberOf}
 use Rattle.rules.specs.Puts.{putEnter, putClock, applyAll}
-use Rattle.rules.specs.Calls.{begun, begin, visibleVersion, readPtr, recordRead, read, candidates, recordReads, matching, asRow, lookup}
-use Rattle.basic_laws.specs.Cases.{by, clash, iff, and-true, and-false, or-false, or-neither, mem-here, mem-there}
+use Rattle.rules.specs.Calls.{begun, begin, visibleVersion, readPtr, sameRead, recordRead, read, candidates, recordReads, matching, asRow, lookup}
+use Rattle.basic_laws.specs.AllOf.{any-append}
+use Rattle.basic_laws.specs.Cases.{by, clash, iff, and-true, and-false, or-false, mem-here, mem-there}
 use Rattle.basic_laws.specs.Members.{at-mem, mem-all}
 use Rattle.basic_laws.specs.Rising.{unique, rising-from, rising-unique, rising-ext, rising-short}
 use Rattle.basic_laws.specs.Rearranged.{or-none}
@@ -43,6 +43,7 @@ use Rattle.call_laws.specs.Passed.{Admitted}
 use Rattle.call_laws.specs.LookupLaws.{lookup-impossible, minute-passes}
 use Rattle.posting_laws.specs.Written.{rowsOf}
 use Rattle.call_laws.specs.BeginLaws.{begin-keeps}
+use Rattle.call_laws.specs.ReadLaws.{same-version}
 use Rattle.call_laws.specs.KeepsReads.{read-keeps}
 use Rattle.call_laws.specs.CandidateRows.{candidates-rise, candidate-below, matching-rise, matching-is}
 
@@ -72,8 +73,7 @@ head-first f n next (suc p) k = rw (k (λ e. omega (arith, e)))
 
 -- one read more, and whether a pointer is among them
 any-more {ℓ} : {A : Type ℓ} (f : A → Bool) (l : List A) (e : A) → any f l ≡ false → f e ≡ false → any f (l ++ e ∷ []) ≡ false
-any-more f [] e h k = rw k
-any-more f (x ∷ l) e h k = let o = or-false (f x) (any f l) h in or-neither (f x) (any f (l ++ e ∷ [])) (o .0) (any-more f l e (o .1) k)
+any-more f l e h k = rw (any-append f l (e ∷ []), h, k)
 
 one-more {ℓ} : {A : Type ℓ} (b : Bool) (l : List A) (e : A) → length (cond b l (l ++ e ∷ [])) ≤ suc (length l)
 one-more true l e = omega arith
@@ -164,7 +164,7 @@ module _ (T : Store) (z : Sized T) (rest : resting T ≡ true) (sound : T .poiso
       let m = recordRead (entered T) y r (readsOf y) in
       let p = readPtr (entered T) y r in
       let one : length m ≤ suc (length (readsOf y)) = one-more
-      (eqb p 0 || (not (eqb (lastOwn r (writesOf y) .new .0) 0) || any (λ e. eqb (e .ptr .0) p) (readsOf y))) (readsOf y) (entry T r p) in
+      (not (eqb (lastOwn r (writesOf y) .new .0) 0) || any (sameRead r p) (readsOf y)) (readsOf y) (entry T r p) in
       let short : length m ≤ readLimit = omega (arith, one, K .read) in
       let G = K .goes-on in
       let h = applies-none (read (entered T) y r .refusal) (readLines (entered T) y r) (read-told (entered T) y r)
@@ -198,7 +198,7 @@ module _ (T : Store) (z : Sized T) (rest : resting T ≡ true) (sound : T .poiso
   records-one : (r : ℕ) (l : List ReadRecord) → r < rows → (getD (T .heads) r 0 ≡ 0 → ⊥) → any (λ e. eqb (e .ptr .0) (getD (T .heads) r 0)) l ≡ false
       → recordRead (entered T) (begun T) r l ≡ l ++ entry T r (getD (T .heads) r 0) ∷ []
   unfolding recordRead
-  records-one r l lt n k = rw (reads-head r lt, no-own r, ne-eqb (getD (T .heads) r 0) 0 n, k)
+  records-one r l lt n k = rw (reads-head r lt, no-own r, same-version r (getD (T .heads) r 0) (ne-eqb (getD (T .heads) r 0) 0 n), k)
 
   -- so a read is recorded for each of several such rows
   records-each : (rs : List ℕ) (l : List ReadRecord) → unique rs ≡ true → ((r : ℕ) → memb r rs ≡ true → r < rows)

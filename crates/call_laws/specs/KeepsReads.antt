@@ -1,4 +1,4 @@
--- Read keeps the transaction fit: what it records is a slot of the row's chain.
+-- Read keeps the transaction fit: what it records is a slot of the row's chain, or pointer 0 with xmin 0.
 use mathlib.Core.Path.{_≡_, refl}
 use mathlib.Core.Bool.{true}
 use mathlib.Core.List.{List}
@@ -14,7 +14,7 @@ use Rattle.rules.specs.Transaction.{readsOf, withReads}
 use Rattle.rules.specs.Fit.{readFit, fit}
 use Rattle.rules.specs.Numbers.{numberOf}
 use Rattle.rules.specs.Calls.{recordRead, read}
-use Rattle.basic_laws.specs.Cases.{every-none, cons-every}
+use Rattle.basic_laws.specs.Cases.{every-none, cons-every, and-both, or-left}
 use Rattle.basic_laws.specs.Chain.{chain-below}
 use Rattle.statements.specs.Sized.{Sized}
 use Rattle.basic_laws.specs.TestParts.{fit-parts, parts-fit}
@@ -23,7 +23,7 @@ use Rattle.admitted_laws.specs.Resting.{Rests, rests}
 use Rattle.sentences.specs.Refusals.{read-accepted}
 use Rattle.call_laws.specs.Passed.{read-passed}
 use Rattle.basic_laws.specs.Blanks.{all-more, drop-pad}
-use Rattle.statements.specs.ReadWords.{Reading, own, found, known, absent, readOf}
+use Rattle.statements.specs.ReadWords.{Reading, own, found, known, absent, missed, readOf}
 use Rattle.call_laws.specs.ReadLaws.{mem-mid, reading}
 use Rattle.call_laws.specs.Counts.{SizedTx, blankRead, counts-parts, parts-counts}
 use Rattle.call_laws.specs.Keeps.{Keeps}
@@ -36,9 +36,11 @@ module _ (S : Store) (x : Tx) (L : ℕ → List ℕ) (z : Sized S) (R : Rests S 
       let b = chain-below (S .next) (getD (S .heads) r 0) (L r) p (R .mends .stands .chains .chain r (omega (arith, z .heads)))
       (rw (F .split) (mem-mid p (F .before) (F .after))) in
       all-more readFit l (readOf r p (getD (S .xmin) p 0)) h
-      (cons-every _ _ (lt-ltb r rows lt) (cons-every _ _ (le-leb 1 p (b .0)) (cons-every _ _ (le-leb p slots (omega (arith, b .1, z .next))) every-none)))
+      (cons-every _ _ (lt-ltb r rows lt)
+      (cons-every _ _ (or-left _ _ (and-both _ _ (le-leb 1 p (b .0)) (le-leb p slots (omega (arith, b .1, z .next))))) every-none))
   reading-fits r lt (known p e F k v) h = h
-  reading-fits r lt (absent e s v) h = h
+  reading-fits {l} r lt (absent e s k v) h = all-more readFit l (readOf r 0 0) h (cons-every _ _ (lt-ltb r rows lt) (cons-every _ _ refl every-none))
+  reading-fits r lt (missed e s k v) h = h
 
   -- a fit transaction with other fit reads is fit
   pub reads-fit : fit S x ≡ true → (l : List ReadRecord) → length l ≤ readLimit → all readFit l ≡ true → fit S (withReads l x) ≡ true

@@ -10,6 +10,7 @@ pub mod StaysFit
 -- Each call.
 pub mod BeginLaws
 pub mod ReadLaws
+pub mod AbsentReads
 pub mod KeepsReads
 pub mod Took
 pub mod WriteLaws

@@ -15,7 +15,7 @@ use Rattle.rules.specs.Types.{Store, Tx, ReadRecord, Seen}
 use Rattle.rules.specs.Transaction.{writesOf, readsOf, sees, lastOwn, withReads}
 use Rattle.rules.specs.Fit.{fit}
 use Rattle.rules.specs.Numbers.{numberOf}
-use Rattle.rules.specs.Calls.{visibleVersion, readPtr, recordRead, recordReads, read}
+use Rattle.rules.specs.Calls.{visibleVersion, readPtr, sameRead, recordRead, recordReads, read}
 use Rattle.basic_laws.specs.Cases.{and-true, mem-here, mem-there}
 use Rattle.statements.specs.Sized.{Sized}
 use Rattle.basic_laws.specs.TestParts.{fit-parts}
@@ -33,7 +33,7 @@ use Rattle.call_laws.specs.KeepsReads.{read-keeps}
 longer : (S : Store) (x : Tx) (r : ℕ) (l : List ReadRecord) → length l ≤ length (recordRead S x r l)
 unfolding recordRead
 longer S x r l =
-    go (eqb (readPtr S x r) 0 || (not (eqb (lastOwn r (writesOf x) .new .0) 0) || any (λ e. eqb (e .ptr .0) (readPtr S x r)) l))
+    go (not (eqb (lastOwn r (writesOf x) .new .0) 0) || any (sameRead r (readPtr S x r)) l)
     (record { row = record { 0 = r }; ptr = record { 0 = readPtr S x r }; xmin = record { 0 = getD (S .xmin) (readPtr S x r) 0 } })
   where
     go : (b : Bool) (e : ReadRecord) → length l ≤ length (cond b l (l ++ e ∷ []))

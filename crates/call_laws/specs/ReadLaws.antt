@@ -1,15 +1,15 @@
 -- Read: whose value it gives, what it records, and that it changes nothing else. The words are in crate `statements`, ReadWords.
 use mathlib.Core.Path.{_≡_, refl, sym, ap, _∙_}
-use mathlib.Core.Bool.{Bool, true, false, not}
-use mathlib.Core.List.{List, [], _∷_, _++_, map}
+use mathlib.Core.Bool.{Bool, true, false, not, _&&_, _||_, and-true as and-yes}
+use mathlib.Core.List.{List, [], _∷_, _++_}
 use mathlib.Core.Logic.{_↔_}
 use Prim.Native.Nat.{ℕ, _<_}
 use native.Mathlib.Omega.{arith}
 use lib.ListN.{length, getD}
 use lib.Dec.{eqb, ltb}
-use borrow.Author.Tests.{eqb-true, eqb-false, eq-eqb, ne-eqb, ltb-true, lt-ltb, lt-leb, not-true}
+use borrow.Author.Tests.{eqb-true, eqb-false, eq-eqb, ne-eqb, ltb-true, lt-ltb, lt-leb}
 use Rattle.records.specs.Limits.{rows, places, readLimit}
-use Rattle.records.specs.Zero.{noWrite}
+use Rattle.records.specs.Zero.{noWrite, noRead}
 use Rattle.rules.specs.Lists.{all, any, memb, nonzero, firstOf}
 use Rattle.rules.specs.Types.{Store, Tx, Write, ReadRecord, Value, Absent}
 use Rattle.rules.specs.Store.{valueAt}
@@ -17,16 +17,20 @@ use Rattle.rules.specs.Transaction.{writesOf, readsOf, sees, lastOwn}
 use Rattle.rules.specs.Chains.{chainFrom, walk}
 use Rattle.rules.specs.Fit.{fit, writeFit}
 use Rattle.rules.specs.Numbers.{numberOf}
-use Rattle.rules.specs.Calls.{visibleVersion, readPtr, recordRead, read}
-use Rattle.basic_laws.specs.Cases.{by, clash, and-true, or-true, or-false, or-neither, mem-here, mem-there}
+use Rattle.rules.specs.Calls.{visibleVersion, readPtr, sameRead, recordRead, read}
+use Rattle.basic_laws.specs.Cases.{by, clash, and-true, and-both, or-true, or-false, mem-here, mem-there}
 use Rattle.basic_laws.specs.Chain.{chain-below}
 use Rattle.basic_laws.specs.Chained.{chained-from}
 use Rattle.statements.specs.Sized.{Sized}
-use Rattle.statements.specs.ReadWords.{VisibleAt, FirstIn, NoneIn, itsWrites, LastOf, ofRow, ofPtr, readOf, Reading, own, found, known, absent}
-use Rattle.statements.specs.ReadWords.{Reads, ReadTooMany}
+use Rattle.statements.specs.ReadWords.{VisibleAt, FirstIn, NoneIn, itsWrites, LastOf, ofRow, ofPtr, readOf, Reads, ReadTooMany}
+use Rattle.statements.specs.ReadWords.{ofAbsent, Reading, own, found, known, absent, missed, ApartReads, RecordedOnce}
 use Rattle.basic_laws.specs.TestParts.{fit-parts, write-parts}
-use Rattle.basic_laws.specs.Rising.{unique}
-use Rattle.basic_laws.specs.AllOf.{all-then}
+use Rattle.basic_laws.specs.Members.{pairs}
+use Rattle.basic_laws.specs.EachTwo.{each-pair}
+use Rattle.basic_laws.specs.Blanks.{all-more}
+use Rattle.basic_laws.specs.AllOf.{all-then, none-all}
+use Rattle.run_laws.specs.FourTests.{either, both, differ}
+use Rattle.admitted_laws.specs.FitSchedule.{same-number}
 use Rattle.sentences.specs.ReadsSay.{sees-says, none-meant, meant-none, first-says, first-one, value-says, value-one, reads-alone}
 use Rattle.admitted_laws.specs.Repairable.{marks}
 use Rattle.admitted_laws.specs.Resting.{Rests}
@@ -91,6 +95,10 @@ last-is r [] w after h e n = (rw (last-none r after n, eq-eqb (w .row .0) r e), 
 last-is r (v ∷ before) w after h e n =
     let i = last-is r before w after (and-true (taken v) (all taken (before ++ w ∷ after)) h .1) e n in
     (rw (i .0, nonzero-ne (w .new .0) (i .1)), i .1)
+
+-- a version is known by its pointer
+pub same-version : (r p : ℕ) → eqb p 0 ≡ false → sameRead r p ≡ ofPtr p
+same-version r p n = λ i e. (not (n i) || eqb (e .row .0) r) && eqb (e .ptr .0) p
 
 module _ (S : Store) (x : Tx) (L : ℕ → List ℕ) (z : Sized S) (R : Rests S L) (f : fit S x ≡ true) where
   -- the writes of a fit transaction have their slots
@@ -161,9 +169,12 @@ module _ (S : Store) (x : Tx) (L : ℕ → List ℕ) (z : Sized S) (R : Rests S 
       (λ s. let F = first-of S x (L r) s in
       let p = firstOf v (L r) in
       by (any (ofPtr p) l)
-      (λ k. rw (first-read r p lt e F, last-none r (writesOf x) e, found-some r p lt F, k) (known p e F k (value-says S p)))
-      (λ k. rw (first-read r p lt e F, last-none r (writesOf x) e, found-some r p lt F, k) (found p e F k (value-says S p))))
-      (λ s. let n = none-of S x (L r) s in rw (none-read r lt e n) (absent e n no-value)))
+      (λ k. rw (first-read r p lt e F, last-none r (writesOf x) e, same-version r p (found-some r p lt F), k) (known p e F k (value-says S p)))
+      (λ k. rw (first-read r p lt e F, last-none r (writesOf x) e, same-version r p (found-some r p lt F), k) (found p e F k (value-says S p))))
+      (λ s. let n = none-of S x (L r) s in
+      by (any (ofAbsent r) l)
+      (λ k. rw (none-read r lt e n, last-none r (writesOf x) e, k) (missed e n k no-value))
+      (λ k. rw (none-read r lt e n, last-none r (writesOf x) e, k, R .mends .slots .first) (absent e n k no-value))))
 
   -- and nothing else is: a reading has one value and one list of reads
   pub reading-one : (r : ℕ) (l m : List ReadRecord) (v : Value) → r < rows → Reading S x r (L r) l v m
@@ -174,11 +185,16 @@ module _ (S : Store) (x : Tx) (L : ℕ → List ℕ) (z : Sized S) (R : Rests S 
       (rw (i .0) (value-one S (w .new .0) v h), rw (i .0, i .1, i .2))
   reading-one r l m v lt (found p e F k h) =
       let q = first-read r p lt e F in
-      (rw q (value-one S p v h), rw (q, last-none r (writesOf x) e, found-some r p lt F, k))
+      (rw q (value-one S p v h), rw (q, last-none r (writesOf x) e, same-version r p (found-some r p lt F), k))
   reading-one r l m v lt (known p e F k h) =
       let q = first-read r p lt e F in
-      (rw q (value-one S p v h), rw (q, last-none r (writesOf x) e, found-some r p lt F, k))
-  reading-one r l m v lt (absent e n h) = let q = none-read r lt e n in (rw q (h ∙ sym no-value), rw q)
+      (rw q (value-one S p v h), rw (q, last-none r (writesOf x) e, same-version r p (found-some r p lt F), k))
+  reading-one r l m v lt (absent e n k h) =
+      let q = none-read r lt e n in
+      (rw q (h ∙ sym no-value), rw (q, last-none r (writesOf x) e, k, R .mends .slots .first))
+  reading-one r l m v lt (missed e n k h) =
+      let q = none-read r lt e n in
+      (rw q (h ∙ sym no-value), rw (q, last-none r (writesOf x) e, k))
 
 -- an accepted read gives that value and those reads, and changes nothing else
 pub read-gives : (S : Store) (x : Tx) (L : ℕ → List ℕ) → Sized S → Rests S L → (r : ℕ) → numberOf (read S x r .refusal) ≡ 0
@@ -235,30 +251,35 @@ module _ (S : Store) (x : Tx) (L : ℕ → List ℕ) (z : Sized S) (R : Rests S 
         ),
       )
 
--- "recorded once per pointer": where no pointer stood twice, none does
-abbrev pub pointers : List ReadRecord → List ℕ
-pointers l = map (λ e. e .ptr .0) l
+-- "recorded once per pointer", an absent row "once per row": where no read stood twice, none does
+abbrev apart : ReadRecord → ReadRecord → Bool
+apart d e = not (eqb (d .ptr .0) (e .ptr .0)) || (eqb (e .ptr .0) 0 && not (eqb (d .row .0) (e .row .0)))
 
--- a number that is not among the pointers, nor the next
-absent-more : (y : ℕ) (l : List ReadRecord) (e : ReadRecord) → memb y (pointers l) ≡ false → eqb y (e .ptr .0) ≡ false → memb y (pointers (l ++ e ∷ [])) ≡ false
-absent-more y [] e m n = rw n
-absent-more y (q ∷ l) e m n =
-    let o = or-false (eqb y (q .ptr .0)) (memb y (pointers l)) m in
-    or-neither (eqb y (q .ptr .0)) (memb y (pointers (l ++ e ∷ []))) (o .0) (absent-more y l e (o .1) n)
+apart-says : (l : List ReadRecord) → (pairs apart l ≡ true) ↔ RecordedOnce l
+apart-says = each-pair noRead apart ApartReads (λ d e. either _ _ (differ _ _) (both _ _ (same-number _ _) (differ _ _)))
 
--- one read more, of a new pointer
-unique-more : (l : List ReadRecord) (e : ReadRecord) → any (ofPtr (e .ptr .0)) l ≡ false → unique (pointers l) ≡ true
-    → unique (pointers (l ++ e ∷ [])) ≡ true
-unique-more [] e n u = refl
-unique-more (q ∷ l) e n u =
-    let o = or-false (eqb (q .ptr .0) (e .ptr .0)) (any (λ d. eqb (d .ptr .0) (e .ptr .0)) l) n in
-    let a = and-true (not (memb (q .ptr .0) (pointers l))) (unique (pointers l)) u in
-    rw (absent-more (q .ptr .0) l e (not-true (memb (q .ptr .0) (pointers l)) (a .0)) (o .0)) (unique-more l e (o .1) (a .1))
+-- one read more, apart from those before
+apart-more : (l : List ReadRecord) (e : ReadRecord) → all (λ d. apart d e) l ≡ true → pairs apart l ≡ true → pairs apart (l ++ e ∷ []) ≡ true
+apart-more [] e h u = refl
+apart-more (d ∷ l) e h u =
+    let a = and-true (apart d e) (all (λ q. apart q e) l) h in
+    let b = and-true (all (apart d) l) (pairs apart l) u in
+    and-both (all (apart d) (l ++ e ∷ [])) (pairs apart (l ++ e ∷ [])) (all-more (apart d) l e (b .0) (a .0)) (apart-more l e (a .1) (b .1))
 
--- so a reading keeps them distinct
-pub once : {S : Store} {x : Tx} {r : ℕ} {c : List ℕ} {l m : List ReadRecord} {v : Value} → Reading S x r c l v m → unique (pointers l) ≡ true
-    → unique (pointers m) ≡ true
+-- of a new pointer, or of a row that is new as absent
+new-pointer : (p : ℕ) (e : ReadRecord) → e .ptr .0 ≡ p → (l : List ReadRecord) → any (ofPtr p) l ≡ false → all (λ d. apart d e) l ≡ true
+new-pointer p e is l h = none-all (ofPtr p) (λ d. apart d e) (λ d k. rw (is, k)) l h
+
+new-row : (r : ℕ) (l : List ReadRecord) → any (ofAbsent r) l ≡ false → all (λ d. apart d (readOf r 0 0)) l ≡ true
+new-row r l h = none-all (ofAbsent r) (λ d. apart d (readOf r 0 0))
+    (λ d k. by (eqb (d .ptr .0) 0) (λ z. rw (z, rw (z, and-yes) at k)) (λ z. rw z)) l h
+
+-- so a reading keeps them apart
+pub once : {S : Store} {x : Tx} {r : ℕ} {c : List ℕ} {l m : List ReadRecord} {v : Value} → Reading S x r c l v m → RecordedOnce l → RecordedOnce m
 once (own w o h) u = u
-once {S} {x} {r} {c} {l} (found p n f k h) u = unique-more l (readOf r p (getD (S .xmin) p 0)) k u
+once {S} {x} {r} {c} {l} (found p n f k h) u =
+    let e = readOf r p (getD (S .xmin) p 0) in apart-says (l ++ e ∷ []) .0 (apart-more l e (new-pointer p e refl l k) (apart-says l .1 u))
 once (known p n f k h) u = u
-once (absent n k h) u = u
+once {S} {x} {r} {c} {l} (absent n f k h) u =
+    let e = readOf r 0 0 in apart-says (l ++ e ∷ []) .0 (apart-more l e (new-row r l k) (apart-says l .1 u))
+once (missed n f k h) u = u

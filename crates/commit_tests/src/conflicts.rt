@@ -6,7 +6,7 @@ ghost use Rattle.rules.specs.Types.{Store};
 ghost use Rattle.rules.specs.Lists.{any};
 ghost use Rattle.rules.specs.Tests.{indexReadConflict, rowLockConflict, serializationConflict};
 ghost use Rattle.fields.specs.Lent.{atRows, atPlaces, flagsAtPlaces, atActive, atStripes};
-ghost use Rattle.commit_tests.specs.Conflicts.{readConflictOf, baseMoved};
+ghost use Rattle.commit_tests.specs.Conflicts.{versionConflictOf, readConflictOf, baseMoved};
 use super::finals::Finals;
 use fields::lent::clipped;
 use fields::lent::head_of;
@@ -65,8 +65,8 @@ pub fn has_row_lock_conflict<'a>(
     false
 }
 
-// One read: a changed xmin conflicts first; xmax 0 or own is none; xmax at or above snapshot_xmax, or in the snapshot, conflicts.
-fn read_conflict<'a>(
+// One read of a version: a changed xmin conflicts first; xmax 0 or own is none; xmax at or above snapshot_xmax, or in the snapshot, conflicts.
+fn version_conflict<'a>(
     xmin: &'a [u64; SlotPtr::PLACES],
     xmax: &'a [u64; SlotPtr::PLACES],
     snapshot: &'a [u64; Txid::ACTIVE],
@@ -75,7 +75,7 @@ fn read_conflict<'a>(
     end: Txid,
     e: ReadRecord,
 ) -> bool
-    ensures { λ r. ⌜ r ≡ readConflictOf (atPlaces (now (xmin .entry))) (atPlaces (now (xmax .entry)))
+    ensures { λ r. ⌜ r ≡ versionConflictOf (atPlaces (now (xmin .entry))) (atPlaces (now (xmax .entry)))
         (take count (atActive (now (snapshot .entry)))) (me .0) (end .0) e ⌝ }
 {
     let creator = txid_at(xmin, e.ptr);
@@ -95,19 +95,43 @@ fn read_conflict<'a>(
     in_snapshot(snapshot, count, ender)
 }
 
+// One read: of an absent row that has a head now, or of a version.
+fn read_conflict<'a>(
+    heads: &'a [u32; RowId::ROWS],
+    xmin: &'a [u64; SlotPtr::PLACES],
+    xmax: &'a [u64; SlotPtr::PLACES],
+    snapshot: &'a [u64; Txid::ACTIVE],
+    count: usize,
+    me: Txid,
+    end: Txid,
+    e: ReadRecord,
+) -> bool
+    ensures { λ r. ⌜ r ≡ readConflictOf (atRows (now (heads .entry))) (atPlaces (now (xmin .entry))) (atPlaces (now (xmax .entry)))
+        (take count (atActive (now (snapshot .entry)))) (me .0) (end .0) e ⌝ }
+{
+    if e.ptr.0 == 0 {
+        let head = head_of(heads, e.row);
+        return head.0 != 0;
+    }
+    version_conflict(xmin, xmax, snapshot, count, me, end, e)
+}
+
 // 13: a read conflicts.
 pub fn has_serialization_conflict<'a>(
+    heads: &'a [u32; RowId::ROWS],
     xmin: &'a [u64; SlotPtr::PLACES],
     xmax: &'a [u64; SlotPtr::PLACES],
     x: Tx,
 ) -> bool
-    ensures { λ r. ⌜ ((S : Store) → S .xmin ≡ atPlaces (now (xmin .entry)) → S .xmax ≡ atPlaces (now (xmax .entry)) → r ≡ serializationConflict S x) ⌝ }
+    ensures { λ r. ⌜ ((S : Store) → S .heads ≡ atRows (now (heads .entry)) → S .xmin ≡ atPlaces (now (xmin .entry))
+        → S .xmax ≡ atPlaces (now (xmax .entry)) → r ≡ serializationConflict S x) ⌝ }
 {
     let n = clipped(x.read_count, Tx::READS);
     let mut i: usize = 0;
     while i < n {
         let e = x.reads[i];
         if read_conflict(
+            heads,
             xmin,
             xmax,
             &x.snapshot,

@@ -13,6 +13,9 @@ pub mod Exhibits
 -- document 02, wish 7: no key over the last minute
 pub mod Minutes
 pub mod HeldMinutes
+-- wish 2: the read of an absent row
+pub mod AbsentRows
+pub mod AbsentMorning
 -- the stamps after every commit
 pub mod StampsAfter
 -- the guards after each store of a commit

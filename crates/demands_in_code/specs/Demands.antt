@@ -2,7 +2,7 @@
 use mathlib.Core.Path.{_≡_, refl}
 use mathlib.Core.Bool.{Bool, true}
 use mathlib.Core.List.{List, [], _∷_}
-use mathlib.Core.Logic.{_↔_}
+use mathlib.Core.Logic.{_↔_, _≢_}
 use Prim.Native.Nat.{ℕ, suc, _≤_, _<_}
 use lib.ListN.{length, getD}
 use native.Mathlib.Omega.{arith}
@@ -24,10 +24,12 @@ use Rattle.statements.specs.Table.{firstRow, Answers}
 use Rattle.statements.specs.Words.{Conflicts, Committed, Safe, Quiet, rowValue, shown, withNew}
 use Rattle.statements.specs.ShowWords.{RowsWith, Answered, unread}
 use Rattle.statements.specs.NumbersSeen.{commitRows, doneRow}
+use Rattle.statements.specs.AbsentWords.{ReadAsAbsent, WritesRow}
 use Rattle.demands.specs.Demand1.{demand-1}
 use Rattle.demands.specs.Demand2.{demand-2}
 use Rattle.demands.specs.Demand3.{demand-3}
 use Rattle.demands.specs.Shows.{recovered-shows, committed-shows}
+use Rattle.demands.specs.AbsentRows.{second-refused}
 
 -- a list whose places all hold keys
 pub all-keys : (l : List ℕ) → ((i : ℕ) → getD l i 0 < keyEnd) → all (λ k. ltb k keyEnd) l ≡ true
@@ -84,3 +86,15 @@ module _ (S : Store) (z : Sized S) (k : Keyed S) {m : Mended} {b : Reply} (e : m
   looks-after q g =
       let same = rw (f, e) at g in
       (same, λ mends early. rw same (recovered-shows S z k mends early .0 .looks q))
+
+-- wish 2, of two answers that are the definition's
+pub commits-both : (S : Store) (x y : Tx) (lx ly : Bool) → Sized S → Keyed S → {plan : Schedule} {a b : Answer} → plan ≡ noFaults
+    → a ≡ commit S x lx plan Uncut → b ≡ commit (a .store) y ly plan Uncut
+    → (b ≡ commit (commit S x lx noFaults Uncut .store) y ly noFaults Uncut)
+    × ((r : ℕ) → Quiet S x lx noFaults → Quiet S y ly noFaults → y .txid .0 ≢ x .txid .0 → WritesRow x r → ReadAsAbsent y r
+    → numberOf (commit S x lx noFaults Uncut .refusal) ≡ 0 → numberOf (b .refusal) ≡ 7)
+commits-both S x y lx ly z k p e f = (
+  rw (f, e, p),
+  λ r one other apart w a h. rw (f, e, p) (second-refused S x y r lx ly noFaults noFaults
+      (record { sized = z; keyed = k; one = one; other = other; apart = apart }) w a h),
+)

@@ -4,7 +4,7 @@
 ghost use mathlib.Core.Path.{_≡_};
 ghost use mathlib.Core.Bool.{true};
 ghost use mathlib.Core.List.{List};
-ghost use mathlib.Core.Logic.{_↔_};
+ghost use mathlib.Core.Logic.{_↔_, _≢_};
 ghost use Prim.Native.Nat.{ℕ, _≤_, _<_};
 ghost use lib.ListN.{length};
 ghost use Rattle.records.specs.Limits.{rows, readLimit, clockEnd, lastMinute};
@@ -20,6 +20,7 @@ ghost use Rattle.statements.specs.Table.{firstRow, Answers};
 ghost use Rattle.statements.specs.Words.{Conflicts, Committed, Safe, Quiet, rowValue, shown, withNew};
 ghost use Rattle.statements.specs.ShowWords.{RowsWith, Answered};
 ghost use Rattle.statements.specs.NumbersSeen.{commitRows, doneRow};
+ghost use Rattle.statements.specs.AbsentWords.{ReadAsAbsent, WritesRow};
 use calls::begin::begin;
 use calls::lookup::lookup;
 use calls::read::read;
@@ -101,4 +102,16 @@ pub fn commit_and_read(s: Store, x: Tx, logged: bool, r: RowId) -> Seen
     let v = next.store;
     let z = next.tx;
     read(v, z, r)
+}
+
+// Document 02, wish 2: two forecasters, one after the other; the second, who has read as absent a row that the first writes, is answered 7.
+pub fn commit_both(s: Store, x: Tx, y: Tx, lx: bool, ly: bool) -> Answer
+    ensures { λ a. ⌜ (a ≡ commit (commit s x lx noFaults Uncut .store) y ly noFaults Uncut)
+        × ((r : ℕ) → Quiet s x lx noFaults → Quiet s y ly noFaults → y .txid .0 ≢ x .txid .0 → WritesRow x r → ReadAsAbsent y r
+        → numberOf (commit s x lx noFaults Uncut .refusal) ≡ 0 → numberOf (a .refusal) ≡ 7) ⌝ }
+{
+    let plan = Schedule::none();
+    let first = commit(s, x, lx, plan, Cut::Uncut);
+    let left = first.store;
+    commit(left, y, ly, plan, Cut::Uncut)
 }

@@ -1,6 +1,6 @@
 -- The tests on a transaction's lists, over arrays, one turn at a time.
 use mathlib.Core.Path.{_≡_, refl, sym, ap, _∙_}
-use mathlib.Core.Bool.{Bool, true, false, not, _&&_, _||_, and-false as and-no, or-true as or-yes}
+use mathlib.Core.Bool.{Bool, true, false, not, _&&_, _||_, and-true, and-false as and-no, or-true as or-yes, or-false as or-no}
 use mathlib.Core.List.{List, [], _∷_}
 use Prim.Native.Nat.{ℕ, _+_, _<_, _≤_}
 use native.Mathlib.Omega.{arith}
@@ -10,14 +10,14 @@ use lib.Dec.{eqb, ltb, leb}
 use Rattle.records.specs.Limits.{rows, slots, places, stripes, indexReadLimit}
 use Rattle.records.specs.Zero.{noIndexRead}
 use Rattle.rules.specs.Types.{Write, ReadRecord, IndexRead}
-use Rattle.rules.specs.Lists.{all}
+use Rattle.rules.specs.Lists.{all, every}
 use Rattle.rules.specs.Store.{used}
 use Rattle.rules.specs.Chains.{on}
 use Rattle.rules.specs.Fit.{readFit, writeFit, writesApart, stripesApart}
 use Rattle.basic_laws.specs.Members.{pairs}
 use Rattle.fields.specs.Lent.{array, array-at, atPlaces}
 use Rattle.fields.specs.FirstCount.{first-cons, first-end}
-use Rattle.fields.specs.Every.{every-fails, each-every, every-last}
+use Rattle.fields.specs.Every.{every-fails, every-last}
 use Rattle.fields.specs.Facts.{nonzero-yes, nonzero-no}
 
 -- an unused place; shut, so that a law finds its record
@@ -94,21 +94,19 @@ module _ (r : IndexRead) where
   unfolding zeroIndexRead
   index-read-unset h k = rw (eq-eqb (r .stripe) 0 h, eq-eqb (r .stamp .0) 0 k)
 
--- a read, by its tests
+-- a read, by its tests: p is its pointer
 module _ (r : ReadRecord) where
-  pub read-row : rows ≤ r .row .0 → readFit r ≡ false
-  read-row h = every-fails (ltb (r .row .0) rows ∷ leb 1 (r .ptr .0) ∷ leb (r .ptr .0) slots ∷ []) 0 (le-ltb (r .row .0) rows h)
+  pub read-row : rows ≤ r .row .0 → false ≡ readFit r
+  read-row h = sym (every-fails _ 0 (le-ltb (r .row .0) rows h))
 
-  pub read-low : (p : ℕ) → p ≡ r .ptr .0 → p < 1 → readFit r ≡ false
-  read-low p e h = every-fails (ltb (r .row .0) rows ∷ leb 1 (r .ptr .0) ∷ leb (r .ptr .0) slots ∷ []) 1 (lt-leb 1 (r .ptr .0) (omega arith))
+  module _ (p : ℕ) (e : p ≡ r .ptr .0) (h : r .row .0 < rows) where
+    pub read-absent : p ≡ 0 → eqb (r .xmin .0) 0 ≡ readFit r
+    unfolding every
+    read-absent z = rw (lt-ltb (r .row .0) rows h, ← e, z, and-true (eqb (r .xmin .0) 0))
 
-  pub read-high : (p : ℕ) → p ≡ r .ptr .0 → slots < p → readFit r ≡ false
-  read-high p e h = every-fails (ltb (r .row .0) rows ∷ leb 1 (r .ptr .0) ∷ leb (r .ptr .0) slots ∷ []) 2 (lt-leb (r .ptr .0) slots (omega arith))
-
-  pub read-fits : (p : ℕ) → p ≡ r .ptr .0 → r .row .0 < rows → 1 ≤ p → p ≤ slots → readFit r ≡ true
-  read-fits p e h k l =
-      each-every (ltb (r .row .0) rows ∷ leb 1 (r .ptr .0) ∷ leb (r .ptr .0) slots ∷ [])
-      (lt-ltb (r .row .0) rows h, (le-leb 1 (r .ptr .0) (omega arith), (le-leb (r .ptr .0) slots (omega arith), tt)))
+    pub read-version : (p ≡ 0 → ⊥) → leb p slots ≡ readFit r
+    unfolding every
+    read-version n = rw (lt-ltb (r .row .0) rows h, ← e, le-leb 1 p (omega (arith, n)), ne-eqb p 0 n, or-no (leb p slots), and-true (leb p slots))
 
 -- a write, by lent arrays and the marks of the walk
 unfoldable pub writeAt : List ℕ → List ℕ → List ℕ → ℕ → Write → Bool

@@ -95,24 +95,32 @@ fn no_savepoint_from(points: &[usize; Tx::SAVEPOINTS], n: usize) -> bool
     true
 }
 
-// Rows below the limit, pointers from 1 to the last slot.
+// A row below the limit, a pointer from 1 to the last slot, or pointer 0 with xmin 0.
+fn read_fit(e: ReadRecord) -> bool
+    ensures { λ r. ⌜ r ≡ readFit e ⌝ }
+{
+    if RowId::ROWS <= e.row.0 {
+        return false;
+    }
+    let p = place(e.ptr.0);
+    if p == 0 {
+        return e.xmin.0 == 0;
+    }
+    p <= SlotPtr::SLOTS
+}
+
+// Each of the first n reads.
 fn reads_fit(reads: [ReadRecord; Tx::READS], n: usize) -> bool
     requires { ⌜ n ≤ readLimit ⌝ }
     ensures { λ r. ⌜ r ≡ all readFit (take n (array readLimit noRead reads)) ⌝ }
 {
     let mut i: usize = 0;
     while i < n {
-        if RowId::ROWS <= reads[i].row.0 {
+        if read_fit(reads[i]) {
+            i += 1;
+        } else {
             return false;
         }
-        let p = place(reads[i].ptr.0);
-        if p < 1 {
-            return false;
-        }
-        if SlotPtr::SLOTS < p {
-            return false;
-        }
-        i += 1;
     }
     true
 }

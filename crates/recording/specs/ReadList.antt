@@ -1,6 +1,6 @@
 -- The reads of a transaction as code holds them, and what recording one more does.
 use mathlib.Core.Path.{_≡_, refl, sym, ap, _∙_}
-use mathlib.Core.Bool.{Bool, true, false, not, cond, _||_}
+use mathlib.Core.Bool.{true, false, not, cond, _||_}
 use mathlib.Core.List.{List, [], _∷_, _++_}
 use Prim.Native.Nat.{ℕ, _+_, _<_, _≤_, min}
 use native.Mathlib.Omega.{arith}
@@ -13,7 +13,7 @@ use Rattle.records.specs.Zero.{noRead}
 use Rattle.rules.specs.Lists.{any, pad}
 use Rattle.rules.specs.Types.{Store, Tx, ReadRecord}
 use Rattle.rules.specs.Transaction.{lastOwn, writesOf, withReads}
-use Rattle.rules.specs.Calls.{recordRead, readPtr}
+use Rattle.rules.specs.Calls.{sameRead, recordRead, readPtr}
 use Rattle.fields.specs.Pad.{pad-snoc, pad-over, take-clip}
 use Rattle.visibility.specs.Found.{readPtrOf}
 use Rattle.recording.specs.declared.reads.ReadList.{ReadList}
@@ -22,14 +22,10 @@ use Rattle.recording.specs.declared.reads.ReadList.{ReadList}
 unfoldable pub laid : List ReadRecord → ReadList
 laid l = record { at = pad readLimit noRead l; count = min (length l) readLimit; over = ltb readLimit (length l) }
 
--- a read of the pointer p
-abbrev pub ofPtr : ℕ → ReadRecord → Bool
-ofPtr p e = eqb (e .ptr .0) p
-
 unfoldable pub recordReadOf : List ℕ → List ℕ → List ℕ → Tx → ℕ → List ReadRecord → List ReadRecord
 recordReadOf heads next xmin x r l =
     let p = readPtrOf heads next xmin x r in
-    cond (eqb p 0 || (not (eqb (lastOwn r (writesOf x) .new .0) 0) || any (ofPtr p) l))
+    cond (not (eqb (lastOwn r (writesOf x) .new .0) 0) || any (sameRead r p) l)
     l
     (l ++ record { row = record { 0 = r }; ptr = record { 0 = p }; xmin = record { 0 = getD xmin p 0 } } ∷ [])
 

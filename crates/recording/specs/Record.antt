@@ -6,38 +6,32 @@ use Prim.Native.Nat.{ℕ, zero, suc, _<_, min}
 use native.Mathlib.Omega.{arith}
 use lib.ListN.{length, getD, take, length-append}
 use lib.Seq.{take-all}
-use lib.Dec.{eqb, ltb}
+use lib.Dec.{ltb}
 use borrow.Author.Tests.{ne-eqb, lt-ltb, ltb-true, ltb-false}
 use Rattle.records.specs.Limits.{readLimit}
 use Rattle.records.specs.Zero.{noRead}
 use Rattle.rules.specs.Lists.{any, pad}
 use Rattle.basic_laws.specs.Cases.{by, clash}
-use Rattle.rules.specs.Types.{Tx, ReadRecord}
+use Rattle.rules.specs.Types.{Tx, Write, ReadRecord}
 use Rattle.rules.specs.Transaction.{lastOwn, writesOf}
-use Rattle.rules.specs.Calls.{visibleVersion}
+use Rattle.rules.specs.Calls.{visibleVersion, sameRead}
 use Rattle.fields.specs.Pad.{pad-over, take-pad}
-use Rattle.visibility.specs.Found.{readPtrOf, recordedPtr}
-use Rattle.recording.specs.ReadList.{laid, ofPtr, recordReadOf}
+use Rattle.visibility.specs.Found.{readPtrOf}
+use Rattle.recording.specs.ReadList.{laid, recordReadOf}
 use Rattle.recording.specs.declared.reads.ReadList.{ReadList}
 
--- own writes and absent rows are not recorded
-module _ (heads next xmin : List ℕ) (x : Tx) (r : ℕ) (m : List ReadRecord) where
-  pub record-none : 0 ≡ recordedPtr heads next xmin x r → recordReadOf heads next xmin x r m ≡ m
-  unfolding recordReadOf readPtrOf recordedPtr
-  record-none e =
-      by (eqb (lastOwn r (writesOf x) .new .0) 0)
-      (λ o. let v : 0 ≡ visibleVersion heads next xmin x r = rw o at e in rw (o, ← v))
-      (λ o. simp o)
+-- own writes are not recorded
+module _ (heads next xmin : List ℕ) (x : Tx) (r : ℕ) (m : List ReadRecord) (own : Write) (last : own ≡ lastOwn r (writesOf x)) where
+  pub record-none : (own .new .0 ≡ 0 → ⊥) → recordReadOf heads next xmin x r m ≡ m
+  unfolding recordReadOf
+  record-none n = rw (← last, ne-eqb (own .new .0) 0 n)
 
-  -- a version p of t is, once per pointer
-  pub record-once : (p t : ℕ) → p ≡ recordedPtr heads next xmin x r → (p ≡ 0 → ⊥) → t ≡ getD xmin p 0
+  -- what is found else is, once: p of t
+  pub record-once : (p t : ℕ) → own .new .0 ≡ 0 → p ≡ visibleVersion heads next xmin x r → t ≡ getD xmin p 0
       → recordReadOf heads next xmin x r m
-      ≡ cond (any (ofPtr p) m) m (m ++ record { row = record { 0 = r }; ptr = record { 0 = p }; xmin = record { 0 = t } } ∷ [])
-  unfolding recordReadOf readPtrOf recordedPtr
-  record-once p t e n d =
-      by (eqb (lastOwn r (writesOf x) .new .0) 0)
-      (λ o. let v : p ≡ visibleVersion heads next xmin x r = rw o at e in rw (o, ← v, ne-eqb p 0 n, d))
-      (λ o. absurd (n (rw o at e)))
+      ≡ cond (any (sameRead r p) m) m (m ++ record { row = record { 0 = r }; ptr = record { 0 = p }; xmin = record { 0 = t } } ∷ [])
+  unfolding recordReadOf readPtrOf
+  record-once p t none e d = rw (← last, none, ← e, d)
 
 module _ {ℓ} {A : Type ℓ} (f : A → Bool) where
   any-take : (n : ℕ) (m : List A) → any f (take n m) ≡ true → any f m ≡ true
@@ -56,19 +50,19 @@ laid-over m k h =
     lt-ltb readLimit (length (m ++ k)) (omega arith) ∙ sym (lt-ltb readLimit (length m) h) in
     λ i. record { at = a i; count = n i; over = o i }
 
--- whether the pointer was read before, as the array tells it: enough, since a read more changes nothing where the array is too short
-module _ (l : ReadList) (m k : List ReadRecord) (p : ℕ) (b : Bool) (holds : l ≡ laid m) (test : b ≡ any (ofPtr p) (take (l .count) (l .at))) where
-  array-any : b ≡ any (ofPtr p) (take readLimit m)
+-- whether a read is among them, as the array tells it: enough, since a read more changes nothing where the array is too short
+module _ (has : ReadRecord → Bool) (l : ReadList) (m k : List ReadRecord) (b : Bool) (holds : l ≡ laid m) (test : b ≡ any has (take (l .count) (l .at))) where
+  array-any : b ≡ any has (take readLimit m)
   unfolding laid
   array-any = test ∙ rw (ap (λ q. q .count) holds, ap (λ q. q .at) holds, take-pad readLimit noRead m)
 
-  pub read-before : b ≡ true → laid m ≡ laid (cond (any (ofPtr p) m) m k)
-  read-before e = rw (any-take (ofPtr p) readLimit m (sym array-any ∙ e))
+  pub read-before : b ≡ true → laid m ≡ laid (cond (any has m) m k)
+  read-before e = rw (any-take has readLimit m (sym array-any ∙ e))
 
-  pub read-new : b ≡ false → (e : ReadRecord) → k ≡ m ++ e ∷ [] → laid k ≡ laid (cond (any (ofPtr p) m) m k)
+  pub read-new : b ≡ false → (e : ReadRecord) → k ≡ m ++ e ∷ [] → laid k ≡ laid (cond (any has m) m k)
   read-new f e s =
-      by (any (ofPtr p) m)
+      by (any has m)
       (λ y. rw (y, s) (by (ltb readLimit (length m)) (λ o. laid-over m (e ∷ []) (ltb-true readLimit (length m) o)) (λ o.
       let whole : take readLimit m ≡ m = take-all readLimit m (ltb-false readLimit (length m) o) in
-      clash y (ap (any (ofPtr p)) (sym whole) ∙ (sym array-any ∙ f)))))
+      clash y (ap (any has) (sym whole) ∙ (sym array-any ∙ f)))))
       (λ y. rw y)

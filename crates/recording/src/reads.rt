@@ -5,15 +5,17 @@ ghost use mathlib.Core.List.{List, _∷_, [], _++_};
 ghost use lib.ListN.{take};
 ghost use Rattle.rules.specs.Lists.{any};
 ghost use Rattle.rules.specs.Transaction.{readsOf};
+ghost use Rattle.rules.specs.Calls.{sameRead};
 ghost use Rattle.fields.specs.Lent.{atRows, atPlaces};
-ghost use Rattle.recording.specs.ReadList.{laid, ofPtr, recordReadOf};
+ghost use Rattle.recording.specs.ReadList.{laid, recordReadOf};
 use fields::lent::clipped;
 use fields::lent::txid_at;
 use records::ReadRecord;
 use records::RowId;
 use records::SlotPtr;
 use records::Tx;
-use visibility::found::recorded;
+use visibility::chain::visible_version;
+use visibility::own::last_own;
 
 // A list of reads: its first ones in an array, and whether there are more than the array has places.
 pub struct ReadList {
@@ -55,15 +57,28 @@ fn push_read(l: ReadList, e: ReadRecord) -> ReadList
     q
 }
 
-// A read of the pointer among those in the array.
-fn has_read(l: ReadList, p: SlotPtr) -> bool
-    ensures { λ b. ⌜ b ≡ any (ofPtr (p .0)) (take (l .count) (l .at)) ⌝ }
+// The read of the row that finds the pointer: a version is recorded once per pointer, an absent row (pointer 0) once per row.
+fn same_read(e: ReadRecord, r: RowId, p: SlotPtr) -> bool
+    ensures { λ b. ⌜ b ≡ sameRead (r .0) (p .0) e ⌝ }
+{
+    if e.ptr.0 != p.0 {
+        return false;
+    }
+    if p.0 != 0 {
+        return true;
+    }
+    e.row.0 == r.0
+}
+
+// Such a read among those in the array.
+fn has_read(l: ReadList, r: RowId, p: SlotPtr) -> bool
+    ensures { λ b. ⌜ b ≡ any (sameRead (r .0) (p .0)) (take (l .count) (l .at)) ⌝ }
 {
     let n = clipped(l.count, Tx::READS);
     let mut i: usize = 0;
     while i < n {
         let e = l.at[i];
-        if e.ptr.0 == p.0 {
+        if same_read(e, r, p) {
             return true;
         }
         i += 1;
@@ -71,7 +86,7 @@ fn has_read(l: ReadList, p: SlotPtr) -> bool
     false
 }
 
-// Records a found version's pointer and xmin once per pointer; own writes and absent rows are not recorded.
+// Records a found version's pointer and xmin, of an absent row pointer 0 and xmin 0 (place 0 has no other); own writes are not recorded.
 pub(crate) fn record_read<'a>(
     heads: &'a [u32; RowId::ROWS],
     next: &'a [u32; SlotPtr::PLACES],
@@ -83,11 +98,12 @@ pub(crate) fn record_read<'a>(
     ensures { λ q. ⌜ ((m : List ReadRecord) → l ≡ laid m
         → q ≡ laid (recordReadOf (atRows (now (heads .entry))) (atPlaces (now (next .entry))) (atPlaces (now (xmin .entry))) x (r .0) m)) ⌝ }
 {
-    let p = recorded(heads, next, xmin, x, r);
-    if p.0 == 0 {
+    let mine = last_own(x, r);
+    if mine.new.0 != 0 {
         return l;
     }
-    if has_read(l, p) {
+    let p = visible_version(heads, next, xmin, x, r);
+    if has_read(l, r, p) {
         return l;
     }
     let t = txid_at(xmin, p);

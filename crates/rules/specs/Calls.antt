@@ -74,11 +74,16 @@ readPtr S x r =
     let own = lastOwn r (writesOf x) .new .0 in
     cond (eqb own 0) (visibleVersion (S .heads) (S .next) (S .xmin) x r) own
 
--- "A found version's pointer and xmin are recorded once per pointer; own writes and absent rows are not."
+-- "A found version's pointer and xmin are recorded once per pointer"; document 02's wish 2: the read of an absent row "is recorded with pointer 0 and
+-- xmin 0, once per row". Whether e is the read of row r that finds p
+abbrev pub sameRead : ℕ → ℕ → ReadRecord → Bool
+sameRead r p e = (not (eqb p 0) || eqb (e .row .0) r) && eqb (e .ptr .0) p
+
+-- own writes are not recorded; place 0, which is no slot, has xmin 0
 unfoldable pub recordRead : Store → Tx → ℕ → List ReadRecord → List ReadRecord
 recordRead S x r l =
     let p = readPtr S x r in
-    cond (eqb p 0 || (not (eqb (lastOwn r (writesOf x) .new .0) 0) || any (λ e. eqb (e .ptr .0) p) l))
+    cond (not (eqb (lastOwn r (writesOf x) .new .0) 0) || any (sameRead r p) l)
     l
     (l ++ record { row = record { 0 = r }; ptr = record { 0 = p }; xmin = record { 0 = getD (S .xmin) p 0 } } ∷ [])
 

@@ -26,9 +26,12 @@ countsFit x = every (
     ∷ allZero (drop (x .«savepoint_count») (x .savepoints))
     ∷ [])
 
--- "rows below" the limit; "read pointers 1 to" the last slot
+-- "rows below" the limit; "read pointers 1 to" the last slot; document 02's wish 2: "may .. have read pointer 0, with xmin 0"
 abbrev pub readFit : ReadRecord → Bool
-readFit r = every (ltb (r .row .0) rows ∷ leb 1 (r .ptr .0) ∷ leb (r .ptr .0) slots ∷ [])
+readFit r = every (
+    ltb (r .row .0) rows
+    ∷ ((leb 1 (r .ptr .0) && leb (r .ptr .0) slots) || (eqb (r .ptr .0) 0 && eqb (r .xmin .0) 0))
+    ∷ [])
 
 -- "rows below" the limit; "bases 0 to" the last slot; "each new pointer .. used, off every chain, with xmin the txid, next the base"
 -- (a write has no field for its value)

@@ -2,15 +2,16 @@
 use mathlib.Core.Path.{_≡_, refl}
 use mathlib.Core.Bool.{Bool, true, false, not, _&&_, _||_}
 use mathlib.Core.List.{List, [], _∷_}
-use Prim.Native.Nat.{_≤_}
+use Prim.Native.Nat.{ℕ, _≤_}
 use native.Mathlib.Omega.{arith}
 use lib.ListN.{length}
 use lib.Dec.{eqb}
+use borrow.Author.Tests.{eqb-true}
 use Rattle.rules.specs.Types.{Write}
 use Rattle.rules.specs.Lists.{all, any}
 use Rattle.rules.specs.Transaction.{finalWrites}
 use Rattle.rules.specs.Fit.{writesApart}
-use Rattle.basic_laws.specs.Cases.{by, and-true, and-both, or-false}
+use Rattle.basic_laws.specs.Cases.{by, and-true, and-both, or-true, or-right, or-false}
 
 -- two writes of one row, and with one new pointer
 abbrev pub sameRow : Write → Write → Bool
@@ -46,6 +47,16 @@ finals-all f (w ∷ ws) h =
     let a = and-true (f w) (all f ws) h in
     let r = finals-all f ws (a .1) in
     by (any (sameRow w) ws) (λ e. rw e r) (λ e. rw e (and-both (f w) (all f (finalWrites ws)) (a .0) r))
+
+-- a row that is written has a final write
+pub finals-some : (r : ℕ) (ws : List Write) → any (λ w. eqb (w .row .0) r) ws ≡ true → any (λ w. eqb (w .row .0) r) (finalWrites ws) ≡ true
+finals-some r [] h = h
+finals-some r (w ∷ ws) h = or-true (eqb (w .row .0) r) (any (λ v. eqb (v .row .0) r) ws) h
+    (λ e. by (any (sameRow w) ws)
+    (λ k. rw k (finals-some r ws (rw (eqb-true (w .row .0) r e) at k)))
+    (λ k. rw (k, e)))
+    (λ e. let i = finals-some r ws e in
+    by (any (sameRow w) ws) (λ k. rw k i) (λ k. rw k (or-right (eqb (w .row .0) r) (any (λ v. eqb (v .row .0) r) (finalWrites ws)) i)))
 
 -- a write with no later one of its row, and with a new pointer of its own
 no-later : (w : Write) (ws : List Write) → any (sameRow w) ws ≡ false → all (fits w) ws ≡ true → all (differs w) ws ≡ true

@@ -1,20 +1,20 @@
 -- The four tests of commit say yes exactly where the paper's sentences hold.
 use mathlib.Core.Path.{_≡_, refl}
 use mathlib.Core.Logic.{_↔_, _≢_, _⊎_, inl, inr, ⊎-elim, Iff·rfl, Iff·trans, Iff·and}
-use mathlib.Core.Bool.{Bool, true, false, not, _&&_, _||_, false≢true, and-eq-true-iff}
+use mathlib.Core.Bool.{Bool, true, false, not, cond, _&&_, _||_, false≢true, and-eq-true-iff}
 use mathlib.Core.List.{List, [], _∷_}
-use Prim.Native.Nat.{ℕ, _≤_}
+use Prim.Native.Nat.{ℕ}
 use lib.ListN.{getD}
 use lib.Dec.{eqb}
-use borrow.Author.Tests.{eqb-false, ne-eqb, leb-true, le-leb, not-true}
-use Rattle.basic_laws.specs.Cases.{or-false}
-use Rattle.rules.specs.Lists.{any, memb}
+use borrow.Author.Tests.{eqb-true, eqb-false, ne-eqb, leb-true, le-leb, not-true}
+use Rattle.basic_laws.specs.Cases.{by, or-false}
+use Rattle.rules.specs.Lists.{any}
 use Rattle.rules.specs.Types.{Store, Tx, ReadRecord}
-use Rattle.rules.specs.Store.{activeTxids}
-use Rattle.rules.specs.Transaction.{writesOf, readsOf, indexReadsOf, snapshotOf, finalWrites}
+use Rattle.rules.specs.Transaction.{writesOf, readsOf, indexReadsOf, finalWrites}
 use Rattle.rules.specs.Calls.{lockedByAnother}
-use Rattle.rules.specs.Tests.{indexReadConflict, rowLockConflict, readConflict, serializationConflict, writeBaseConflict, conflicting}
-use Rattle.statements.specs.Words.{Some, LockedByAnother, Stale}
+use Rattle.rules.specs.Tests.{indexReadConflict, rowLockConflict, versionConflict, readConflict}
+use Rattle.rules.specs.Tests.{serializationConflict, writeBaseConflict, conflicting}
+use Rattle.statements.specs.Words.{Some, LockedByAnother, Overtaken, Stale}
 
 -- a test with `||`, with `&&`, of a list, of two numbers, in words
 pub either : {P Q : Type 0} (a b : Bool) → (a ≡ true) ↔ P → (b ≡ true) ↔ Q → ((a || b) ≡ true) ↔ (P ⊎ Q)
@@ -47,20 +47,30 @@ pub row-locks-say : (S : Store) (x : Tx) → (rowLockConflict S x ≡ true)
 unfolding rowLockConflict lockedByAnother
 row-locks-say S x = some _ _ (λ w. both _ _ Iff·rfl (both _ _ (differ _ _) Iff·rfl)) (writesOf x)
 
-pub read-says : (S : Store) (x : Tx) (e : ReadRecord) → (readConflict S x e ≡ true) ↔ Stale S x e
-unfolding readConflict
-read-says S x e =
+-- a test that asks one of two things, by whether a number is 0
+by-zero : {P Q : Type 0} (n : ℕ) (a b : Bool) → (a ≡ true) ↔ P → (b ≡ true) ↔ Q → (cond (eqb n 0) a b ≡ true) ↔ (((n ≡ 0) × P) ⊎ ((n ≢ 0) × Q))
+by-zero n a b p q = by (eqb n 0)
+    (λ e. let z = eqb-true n 0 e in rw e (λ t. inl (z, p .0 t), ⊎-elim (λ s. p .1 (s .1)) (λ s. absurd (s .0 z))))
+    (λ e. let z = eqb-false n 0 e in rw e (λ t. inr (z, q .0 t), ⊎-elim (λ s. absurd (z (s .0))) (λ s. q .1 (s .1))))
+
+-- 13, of one read: of a version, and of an absent row
+pub version-says : (S : Store) (x : Tx) (e : ReadRecord) → (versionConflict S x e ≡ true) ↔ Overtaken S x e
+version-says S x e =
     let b = getD (S .xmax) (e .ptr .0) 0 in
     either _ _ (differ _ _)
     (both _ _ (neither (eqb b 0) (eqb b (x .txid .0)) (differ _ _) (differ _ _)) (either _ _ (leb-true _ _, le-leb _ _) Iff·rfl))
+
+pub read-says : (S : Store) (x : Tx) (e : ReadRecord) → (readConflict S x e ≡ true) ↔ Stale S x e
+unfolding readConflict
+read-says S x e = by-zero (e .ptr .0) _ _ (differ _ _) (version-says S x e)
 
 pub serialization-says : (S : Store) (x : Tx) → (serializationConflict S x ≡ true) ↔ Some (Stale S x) (readsOf x)
 unfolding serializationConflict
 serialization-says S x = some _ _ (read-says S x) (readsOf x)
 
--- so a changed xmin conflicts whatever the xmax is, 0 and the reader's own included
-pub changed-xmin-conflicts : (S : Store) (x : Tx) (e : ReadRecord) → getD (S .xmin) (e .ptr .0) 0 ≢ e .xmin .0 → readConflict S x e ≡ true
-changed-xmin-conflicts S x e d = read-says S x e .1 (inl d)
+-- so a version's changed xmin conflicts whatever the xmax is, 0 and the reader's own included
+pub changed-xmin-conflicts : (S : Store) (x : Tx) (e : ReadRecord) → e .ptr .0 ≢ 0 → getD (S .xmin) (e .ptr .0) 0 ≢ e .xmin .0 → readConflict S x e ≡ true
+changed-xmin-conflicts S x e n d = read-says S x e .1 (inr (n, inl d))
 
 -- "14 a final write's base is not the head"
 pub write-bases-say : (S : Store) (x : Tx) → (writeBaseConflict S x ≡ true)

@@ -64,20 +64,20 @@ layered t = record {
   bound = false;
 }
 
--- what such a transaction reads: the number, the value, the one record (row, pointer, xmin) or none
+-- what such a transaction reads: the number, the value, the one record (row, pointer, xmin)
 unfoldable pub readsAs : ℕ → List ℕ → ℕ × Value × List ℕ
 readsAs n l =
     let a = read (layered 0) (forged 9 n l) 0 in
     let e = getD (a .tx .reads) 0 (readOf 0 0 0) in
     (numberOf (a .refusal), a .value, take (3 * a .tx .«read_count») (e .row .0 ∷ e .ptr .0 ∷ e .xmin .0 ∷ []))
 
--- 6 is not below 6; 3 and 5 are in the snapshot; 6 is below 7; 6 is in the snapshot; no creator is visible
+-- 6 is not below 6; 3 and 5 are in the snapshot; 6 is below 7; 6 is in the snapshot; no creator is visible, and the row is recorded as absent
 pub forged-reads : readsAs 6 [] ∷ readsAs 6 (3 ∷ 5 ∷ []) ∷ readsAs 7 [] ∷ readsAs 7 (6 ∷ []) ∷ readsAs 4 (1 ∷ 3 ∷ []) ∷ []
     ≡ (0, Key 20, 0 ∷ 2 ∷ 3 ∷ [])
     ∷ (0, Key 10, 0 ∷ 1 ∷ 1 ∷ [])
     ∷ (0, Key 30, 0 ∷ 3 ∷ 6 ∷ [])
     ∷ (0, Key 20, 0 ∷ 2 ∷ 3 ∷ [])
-    ∷ (0, Absent, [])
+    ∷ (0, Absent, 0 ∷ 0 ∷ 0 ∷ [])
     ∷ []
 unfolding readsAs layered forged computing
 forged-reads = refl

@@ -18,5 +18,6 @@ pub mod FaultWords
 pub mod OtherNumbers
 -- The three demands.
 pub mod Demands
--- Document 02: wish 7.
+-- Document 02: wishes 7 and 2.
 pub mod MinuteWords
+pub mod AbsentWords

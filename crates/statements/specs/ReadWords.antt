@@ -1,9 +1,9 @@
 -- "Other calls" in words: what a transaction sees, reads, looks up and records. Nothing here uses the definitions of these calls but `read` itself, in
 -- "records candidates as Read does".
 use mathlib.Core.Path.{_≡_}
-use mathlib.Core.Bool.{Bool, true, false}
+use mathlib.Core.Bool.{Bool, true, false, _&&_}
 use mathlib.Core.List.{List, [], _∷_, _++_, map}
-use mathlib.Core.Logic.{_↔_, _⊎_}
+use mathlib.Core.Logic.{_↔_, _≢_, _⊎_}
 use Prim.Native.Nat.{ℕ, _+_, _*_, _%_, _≤_, _<_}
 use lib.ListN.{length, getD, take}
 use lib.Dec.{eqb}
@@ -76,6 +76,10 @@ rowId r = record { 0 = r }
 abbrev pub ofPtr : ℕ → ReadRecord → Bool
 ofPtr p e = eqb (e .ptr .0) p
 
+-- the read of row r as absent: pointer 0, and that row
+abbrev pub ofAbsent : ℕ → ReadRecord → Bool
+ofAbsent r e = eqb (e .row .0) r && eqb (e .ptr .0) 0
+
 abbrev pub ofStripe : ℕ → IndexRead → Bool
 ofStripe i e = eqb (e .stripe) i
 
@@ -105,13 +109,23 @@ abbrev pub HasValue : Store → ℕ → Value → Type 0
 HasValue S p v = ((getD (S .has) p false ≡ true) × (v ≡ Key (getD (S .key) p 0))) ⊎ ((getD (S .has) p false ≡ false) × (v ≡ Absent))
 
 -- "Read: the last own write of the row, else the first chain version with a visible creator. A found version's pointer and xmin are recorded once
--- per pointer; own writes and absent rows are not." The chain of row r is c, l the reads before, v the value; last the reads afterwards
+-- per pointer; own writes .. are not." Document 02's wish 2: the read of an absent row "is recorded with pointer 0 and xmin 0, once per row". The chain
+-- of row r is c, l the reads before, v the value; last the reads afterwards
 pub data Reading (S : Store) (x : Tx) (r : ℕ) (c : List ℕ) (l : List ReadRecord) (v : Value) : List ReadRecord → Type 0 where
   own : (w : Write) → LastOf r (itsWrites x) w → HasValue S (w .new .0) v → Reading S x r c l v l
   found : (p : ℕ) → any (ofRow r) (itsWrites x) ≡ false → FirstIn (VisibleAt S x) c p → any (ofPtr p) l ≡ false → HasValue S p v
       → Reading S x r c l v (l ++ readOf r p (getD (S .xmin) p 0) ∷ [])
   known : (p : ℕ) → any (ofRow r) (itsWrites x) ≡ false → FirstIn (VisibleAt S x) c p → any (ofPtr p) l ≡ true → HasValue S p v → Reading S x r c l v l
-  absent : any (ofRow r) (itsWrites x) ≡ false → NoneIn (VisibleAt S x) c → v ≡ Absent → Reading S x r c l v l
+  absent : any (ofRow r) (itsWrites x) ≡ false → NoneIn (VisibleAt S x) c → any (ofAbsent r) l ≡ false → v ≡ Absent
+      → Reading S x r c l v (l ++ readOf r 0 0 ∷ [])
+  missed : any (ofRow r) (itsWrites x) ≡ false → NoneIn (VisibleAt S x) c → any (ofAbsent r) l ≡ true → v ≡ Absent → Reading S x r c l v l
+
+-- "once per pointer", "once per row": of two reads the pointers differ, or both are of absent rows and the rows do
+abbrev pub ApartReads : ReadRecord → ReadRecord → Type 0
+ApartReads d e = (d .ptr .0 ≢ e .ptr .0) ⊎ ((e .ptr .0 ≡ 0) × (d .row .0 ≢ e .row .0))
+
+abbrev pub RecordedOnce : List ReadRecord → Type 0
+RecordedOnce l = (i j : ℕ) → i < j → j < length l → ApartReads (getD l i (readOf 0 0 0)) (getD l j (readOf 0 0 0))
 
 -- what an accepted read answers: that value, and the transaction with those reads and nothing else changed
 pub record Reads (S : Store) (x : Tx) (r : ℕ) (c : List ℕ) (a : Seen) : Type 0 where

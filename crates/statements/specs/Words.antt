@@ -53,11 +53,15 @@ LockedByAnother S t p =
     × ((getD (S .owner) p 0 ≢ t) × (memb (getD (S .owner) p 0) (activeTxids (S .active)) ≡ true))
 
 -- "13 per read, in order: changed xmin conflicts first; xmax 0 or own is none; xmax at or above snapshot_xmax, or in the snapshot, conflicts"
-abbrev pub Stale : Store → Tx → ReadRecord → Type 0
-Stale S x e =
+abbrev pub Overtaken : Store → Tx → ReadRecord → Type 0
+Overtaken S x e =
     let b = getD (S .xmax) (e .ptr .0) 0 in
     (getD (S .xmin) (e .ptr .0) 0 ≢ e .xmin .0)
     ⊎ (((b ≢ 0) × (b ≢ x .txid .0)) × ((x .«snapshot_xmax» .0 ≤ b) ⊎ (memb b (snapshotOf x) ≡ true)))
+
+-- a stale read: of a version, overtaken; of an absent row (pointer 0), document 02's wish 2: "that row's head is no longer 0", and nothing else
+abbrev pub Stale : Store → Tx → ReadRecord → Type 0
+Stale S x e = ((e .ptr .0 ≡ 0) × (getD (S .heads) (e .row .0) 0 ≢ 0)) ⊎ ((e .ptr .0 ≢ 0) × Overtaken S x e)
 
 -- one of the four says yes: "index_conflict is set or a recorded stamp differs"; "a written row's head has a live lock of another"; a stale read;
 -- "a final write's base is not the head"

@@ -98,7 +98,7 @@ fn testing<'a>(
     }
     let g = gates::has_serialization_conflict(
         l,
-        conflicts::has_serialization_conflict(xmin, xmax, x),
+        conflicts::has_serialization_conflict(heads, xmin, xmax, x),
     );
     if g < Gate::CLEAN {
         return g;

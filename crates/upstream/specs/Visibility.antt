@@ -33,7 +33,7 @@ use Rattle.basic_laws.specs.Rising.{rising-from}
 use Rattle.basic_laws.specs.TestParts.{fit-parts}
 use Rattle.statements.specs.Sized.{Sized}
 use Rattle.statements.specs.ReadWords.{InSnapshot, Visible, VisibleAt, NoneIn, FirstIn, LastOf, ofRow, itsWrites, HasValue}
-use Rattle.statements.specs.ReadWords.{readOf, Kept, Reading, own, found, known, absent, InTurn, done, next}
+use Rattle.statements.specs.ReadWords.{readOf, Kept, Reading, own, found, known, absent, missed, InTurn, done, next}
 use Rattle.sentences.specs.Forged.{forged}
 use Rattle.sentences.specs.ReadsSay.{in-snapshot, meant-none, first-one}
 use Rattle.admitted_laws.specs.Repairable.{marks}
@@ -248,39 +248,55 @@ pub record Observed (S : Store) (x : Tx) (L : ℕ → List ℕ) (e : ReadRecord)
   pub first : FirstIn (SeenUpstream S x) (L (e .row .0)) (e .ptr .0)
   pub xmin : e .xmin .0 ≡ getD (S .xmin) (e .ptr .0) 0
 
+-- what upstream has no record of: a row in which it sees no version, with pointer 0 and xmin 0 (document 02's wish 2)
+pub record Missed (S : Store) (x : Tx) (L : ℕ → List ℕ) (e : ReadRecord) : Type 0 where
+  pub row : e .row .0 < rows
+  pub ptr : e .ptr .0 ≡ 0
+  pub xmin : e .xmin .0 ≡ 0
+  pub none : NoneIn (SeenUpstream S x) (L (e .row .0))
+
 -- of two lists joined
 each-append : {A : Type 0} (has : A → Type 0) (l m : List A) → Each has l → Each has m → Each has (l ++ m)
 each-append has [] m a b = b
 each-append has (y ∷ l) m a b = (a .0, each-append has l m (a .1) b)
 
 module _ (S : Store) (x : Tx) (L : ℕ → List ℕ) (z : Sized S) (R : Rests S L) (healthy : S .poisoned ≡ false) (f : fit S x ≡ true) (below : NoneBelow x) where
-  -- `records_extend`, `records_have_provenance`: the reads before stay, and each new one was observed
+  -- `records_extend`, `records_have_provenance`: the reads before stay, and each new one was observed, or is of a row that upstream finds absent
+  abbrev pub FromRow : ReadRecord → Type 0
+  FromRow e = Observed S x L e ⊎ Missed S x L e
+
   abbrev pub Extends : List ReadRecord → List ReadRecord → Type 0
-  Extends l m = (new : List ReadRecord) × (m ≡ l ++ new) × Each (Observed S x L) new
+  Extends l m = (new : List ReadRecord) × (m ≡ l ++ new) × Each FromRow new
 
   -- a read gives the value that upstream selects
   pub reading-selected : {l m : List ReadRecord} {v : Value} (r : ℕ) → r < rows → Reading S x r (L r) l v m → Selected S x (L r) r v
   reading-selected r lt (own w o h) = written w o h
   reading-selected r lt (found p n F k h) = seen p n (first-then S x below f L R healthy r (omega (arith, z .heads)) p F) h
   reading-selected r lt (known p n F k h) = seen p n (first-then S x below f L R healthy r (omega (arith, z .heads)) p F) h
-  reading-selected r lt (absent n k h) = neither n (none-then S x below f L R healthy r (omega (arith, z .heads)) k) h
+  reading-selected r lt (absent n k a h) = neither n (none-then S x below f L R healthy r (omega (arith, z .heads)) k) h
+  reading-selected r lt (missed n k a h) = neither n (none-then S x below f L R healthy r (omega (arith, z .heads)) k) h
 
   -- one reading more
   pub reading-observed : {l m : List ReadRecord} {v : Value} (r : ℕ) → r < rows → Reading S x r (L r) l v m → Extends l m
   reading-observed {l} r lt (own w o h) = ([], sym (append-nil l), tt)
   reading-observed {l} r lt (known p n F k h) = ([], sym (append-nil l), tt)
-  reading-observed {l} r lt (absent n k h) = ([], sym (append-nil l), tt)
+  reading-observed {l} r lt (missed n k a h) = ([], sym (append-nil l), tt)
+  reading-observed {l} r lt (absent n k a h) = (
+    readOf r 0 0 ∷ [],
+    refl,
+    (inr (record { row = lt; ptr = refl; xmin = refl; none = none-then S x below f L R healthy r (omega (arith, z .heads)) k }), tt),
+  )
   reading-observed {l} r lt (found p n F k h) =
       let in-rows : r < length (S .heads) = omega (arith, z .heads) in (
         readOf r p (getD (S .xmin) p 0) ∷ [],
         refl,
         (
-          record {
+          inl (record {
             row = lt;
             used = R .mends .stands .led r p in-rows (first-in (VisibleAt S x) (L r) p F);
             first = first-then S x below f L R healthy r in-rows p F;
             xmin = refl;
-          },
+          }),
           tt,
         ),
       )
@@ -293,7 +309,7 @@ module _ (S : Store) (x : Tx) (L : ℕ → List ℕ) (z : Sized S) (R : Rests S 
       let c = observed t (λ s e. b s (mem-there s r rs e)) in (
         a .0 ++ c .0,
         c .1 ∙ ap (λ (q : List ReadRecord). q ++ c .0) (a .1) ∙ append-assoc l (a .0) (c .0),
-        each-append (Observed S x L) (a .0) (c .0) (a .2) (c .2),
+        each-append FromRow (a .0) (c .0) (a .2) (c .2),
       )
 
 -- WHERE THE BRIDGE STANDS

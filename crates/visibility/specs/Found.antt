@@ -13,10 +13,6 @@ module _ (heads next xmin : List ℕ) (x : Tx) (r : ℕ) where
   unfoldable pub readPtrOf : ℕ
   readPtrOf = let own = lastOwn r (writesOf x) .new .0 in cond (eqb own 0) (visibleVersion heads next xmin x r) own
 
-  -- what a read records: an own write is none
-  unfoldable pub recordedPtr : ℕ
-  recordedPtr = cond (eqb (lastOwn r (writesOf x) .new .0) 0) (visibleVersion heads next xmin x r) 0
-
   unfoldable pub baseOfRow : ℕ
   baseOfRow = let own = lastOwn r (writesOf x) in cond (eqb (own .new .0) 0) (visibleVersion heads next xmin x r) (own .base .0)
 
@@ -36,10 +32,6 @@ module _ (heads next xmin : List ℕ) (x : Tx) (r : ℕ) (own : Write) (last : o
     unfolding readPtrOf
     read-chain = rw (← last, none) e
 
-    pub recorded-chain : p ≡ recordedPtr heads next xmin x r
-    unfolding recordedPtr
-    recorded-chain = rw (← last, none) e
-
     pub base-chain : p ≡ baseOfRow heads next xmin x r
     unfolding baseOfRow
     base-chain = rw (← last, none) e
@@ -49,10 +41,6 @@ module _ (heads next xmin : List ℕ) (x : Tx) (r : ℕ) (own : Write) (last : o
     pub read-own : own .new .0 ≡ readPtrOf heads next xmin x r
     unfolding readPtrOf
     read-own = rw (← last, ne-eqb (own .new .0) 0 some)
-
-    pub recorded-own : 0 ≡ recordedPtr heads next xmin x r
-    unfolding recordedPtr
-    recorded-own = rw (← last, ne-eqb (own .new .0) 0 some)
 
     pub base-own : own .base .0 ≡ baseOfRow heads next xmin x r
     unfolding baseOfRow

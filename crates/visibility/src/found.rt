@@ -1,8 +1,8 @@
-// What read and write find for a row, and what a read of it records.
+// What read and write find for a row.
 
 ghost use mathlib.Core.Path.{_≡_};
 ghost use Rattle.fields.specs.Lent.{atRows, atPlaces};
-ghost use Rattle.visibility.specs.Found.{readPtrOf, recordedPtr, baseOfRow};
+ghost use Rattle.visibility.specs.Found.{readPtrOf, baseOfRow};
 use super::chain::visible_version;
 use super::own::last_own;
 use records::RowId;
@@ -24,24 +24,6 @@ pub fn read_ptr<'a>(
         visible_version(heads, next, xmin, x, r)
     } else {
         own.new
-    }
-}
-
-// The version that a read of the row records: the visible one, null where there is none or an own write is read.
-pub fn recorded<'a>(
-    heads: &'a [u32; RowId::ROWS],
-    next: &'a [u32; SlotPtr::PLACES],
-    xmin: &'a [u64; SlotPtr::PLACES],
-    x: Tx,
-    r: RowId,
-) -> SlotPtr
-    ensures { λ p. ⌜ p .0 ≡ recordedPtr (atRows (now (heads .entry))) (atPlaces (now (next .entry))) (atPlaces (now (xmin .entry))) x (r .0) ⌝ }
-{
-    let mine = last_own(x, r);
-    if mine.new.0 == 0 {
-        visible_version(heads, next, xmin, x, r)
-    } else {
-        SlotPtr::NULL
     }
 }
 

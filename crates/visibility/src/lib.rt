@@ -8,9 +8,9 @@ ghost use Rattle.fields.specs.Lent.{atActive};
 ghost use Rattle.visibility.specs.Sight.{seesBy};
 
 pub mod active;
-mod chain;
+pub mod chain;
 pub mod found;
-mod own;
+pub mod own;
 pub mod own_slots;
 pub mod slots;
 

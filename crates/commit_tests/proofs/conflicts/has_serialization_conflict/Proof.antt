@@ -5,7 +5,7 @@ use Rattle.rules.specs.Lists.{any}
 use Rattle.rules.specs.Types.{Store}
 use Rattle.rules.specs.Transaction.{snapshotOf}
 use Rattle.rules.specs.Tests.{serializationConflict}
-use Rattle.fields.specs.Lent.{atPlaces, array-same}
+use Rattle.fields.specs.Lent.{atRows, atPlaces, array-same}
 use Rattle.fields.specs.First.{firstFrom, first-next, first-end, any-first, any-rest}
 use Rattle.commit_tests.specs.Conflicts.{readConflictOf, serialization-of}
 use Rattle.fields.proofs.Lengths.{reads-long, snapshot-long}
@@ -17,44 +17,44 @@ use Rattle.commit_tests.proofs.conflicts.has_serialization_conflict.Sta
 use Rattle.commit_tests.proofs.conflicts.has_serialization_conflict.Tie as tie
 
 abbrev Inv-loop : tie.InvT-loop
-Inv-loop xmin xmax x n i₀ i =
+Inv-loop heads xmin xmax x n i₀ i =
     (i ≤ n) × (n ≡ min (x .«read_count») readLimit)
-    × ((S : Store) → S .xmin ≡ atPlaces xmin → S .xmax ≡ atPlaces xmax
-    → any (readConflictOf (atPlaces xmin) (atPlaces xmax) (snapshotOf x) (x .txid .0) (x .«snapshot_xmax» .0)) (firstFrom (x .«read_count») (x .reads) i)
-    ≡ serializationConflict S x)
+    × ((S : Store) → S .heads ≡ atRows heads → S .xmin ≡ atPlaces xmin → S .xmax ≡ atPlaces xmax
+    → any (readConflictOf (atRows heads) (atPlaces xmin) (atPlaces xmax) (snapshotOf x) (x .txid .0) (x .«snapshot_xmax» .0))
+    (firstFrom (x .«read_count») (x .reads) i) ≡ serializationConflict S x)
 
 abbrev μ-loop : tie.MeasureT-loop
-μ-loop xmin xmax x n i₀ i = n - i
+μ-loop heads xmin xmax x n i₀ i = n - i
 
 loop-holds : tie.Need-loop-holds Inv-loop μ-loop
 unfolding firstFrom
-loop-holds c = (omega arith, omega arith, λ S m n. serialization-of S _ m n)
+loop-holds c = (omega arith, omega arith, λ S h m n. serialization-of S _ h m n)
 
 returns : tie.Need-returns Inv-loop μ-loop
-returns c = let x = c .before .before .before .before .before .before .before .before .before .before .args .t3 in
-    let long = reads-long x (c .before .before .before .before .before .before .before .before .before .before .good .1 .1 .0) in
-    λ S m n. sym (any-first _ _ _ _ (first-next (x .«read_count») (x .reads) _ noRead (omega arith)) (rw (
+returns c = let x = c .before .before .before .before .before .before .before .before .before .before .args .t4 in
+    let long = reads-long x (c .before .before .before .before .before .before .before .before .before .before .good .1 .1 .1 .0) in
+    λ S h m n. sym (any-first _ _ _ _ (first-next (x .«read_count») (x .reads) _ noRead (omega arith)) (rw (
       ← array-same activeLimit 0 (x .snapshot)
-          (snapshot-long x (c .before .before .before .before .before .before .before .before .before .before .good .1 .1 .0)),
+          (snapshot-long x (c .before .before .before .before .before .before .before .before .before .before .good .1 .1 .1 .0)),
       ← c .before .read-conflict .ensures,
-    ) (c .if1 .taken))) ∙ c .before .before .before .before .before .before .before .before .loop .inv .2 S m n
+    ) (c .if1 .taken))) ∙ c .before .before .before .before .before .before .before .before .loop .inv .2 S h m n
 
 loop-again : tie.Need-loop-again Inv-loop μ-loop
-loop-again c = let x = c .before .before .before .before .before .before .before .before .before .before .args .t3 in
-    let long = reads-long x (c .before .before .before .before .before .before .before .before .before .before .good .1 .1 .0) in (
+loop-again c = let x = c .before .before .before .before .before .before .before .before .before .before .args .t4 in
+    let long = reads-long x (c .before .before .before .before .before .before .before .before .before .before .good .1 .1 .1 .0) in (
       omega arith,
       omega arith,
-      λ S m n. sym (any-rest _ _ _ _ (first-next (x .«read_count») (x .reads) _ noRead (omega arith)) (rw (
+      λ S h m n. sym (any-rest _ _ _ _ (first-next (x .«read_count») (x .reads) _ noRead (omega arith)) (rw (
         ← array-same activeLimit 0 (x .snapshot)
-            (snapshot-long x (c .before .before .before .before .before .before .before .before .before .before .good .1 .1 .0)),
+            (snapshot-long x (c .before .before .before .before .before .before .before .before .before .before .good .1 .1 .1 .0)),
         ← c .before .read-conflict .ensures,
-      ) (c .if1 .left))) ∙ c .before .before .before .before .before .before .before .before .loop .inv .2 S m n,
+      ) (c .if1 .left))) ∙ c .before .before .before .before .before .before .before .before .loop .inv .2 S h m n,
     )
 
 returns-2 : tie.Need-returns-2 Inv-loop μ-loop
-returns-2 c = let x = c .before .before .before .args .t3 in
-    let long = reads-long x (c .before .before .before .good .1 .1 .0) in
-    λ S m n. ap (any _) (sym (first-end (x .«read_count») (x .reads) _ (omega arith))) ∙ c .before .loop .inv .2 S m n
+returns-2 c = let x = c .before .before .before .args .t4 in
+    let long = reads-long x (c .before .before .before .good .1 .1 .1 .0) in
+    λ S h m n. ap (any _) (sym (first-end (x .«read_count») (x .reads) _ (omega arith))) ∙ c .before .loop .inv .2 S h m n
 
 pub has-serialization-conflict-spec : {M : Type 1} → statement M
 has-serialization-conflict-spec =

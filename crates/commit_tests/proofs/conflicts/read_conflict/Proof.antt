@@ -1,6 +1,5 @@
--- `read_conflict` meets its contract, by its tests in order.
-use mathlib.Core.Bool.{or-true}
-use borrow.Author.Tests.{eq-eqb, ne-eqb, le-leb, lt-leb}
+-- `read_conflict` meets its contract, by whether the pointer is 0.
+use borrow.Author.Tests.{eq-eqb, ne-eqb}
 use Rattle.commit_tests.specs.Conflicts.{readConflictOf}
 use borrow.Author.Needs.{needs}
 use Rattle.commit_tests.proofs.conflicts.read_conflict.Statement.{statement}
@@ -8,49 +7,11 @@ use Rattle.commit_tests.proofs.conflicts.read_conflict.Tie as tie
 
 returns : tie.Need-returns
 unfolding readConflictOf
-returns c = rw (← c .before .before .before .txid-at .ensures, ne-eqb _ _ (c .if1 .taken))
+returns c = rw (eq-eqb _ _ (c .before .before .if1 .taken), ← c .before .head-of .ensures)
 
 returns-2 : tie.Need-returns-2
 unfolding readConflictOf
-returns-2 c = rw (
-  ← c .before .before .before .before .before .before .txid-at .ensures,
-  eq-eqb _ _ (c .before .before .before .if1 .left),
-  ← c .before .before .txid-at2 .ensures,
-  c .if2 .taken,
-)
-
-returns-3 : tie.Need-returns-3
-unfolding readConflictOf
-returns-3 c = rw (
-  ← c .before .before .before .before .before .before .before .before .before .txid-at .ensures,
-  eq-eqb _ _ (c .before .before .before .before .before .before .if1 .left),
-  ← c .before .before .before .before .before .txid-at2 .ensures,
-  eq-eqb _ _ (c .if3 .taken),
-  or-true,
-)
-
-returns-4 : tie.Need-returns-4
-unfolding readConflictOf
-returns-4 c = rw (
-  ← c .before .before .before .before .before .before .before .before .before .before .before .before .txid-at .ensures,
-  eq-eqb _ _ (c .before .before .before .before .before .before .before .before .before .if1 .left),
-  ← c .before .before .before .before .before .before .before .before .txid-at2 .ensures,
-  ne-eqb _ _ (c .before .before .before .before .before .before .if2 .left),
-  ne-eqb _ _ (c .before .before .before .if3 .left),
-  le-leb _ _ (c .if4 .taken),
-)
-
-returns-5 : tie.Need-returns-5
-unfolding readConflictOf
-returns-5 c = rw (
-  ← c .before .before .before .before .before .before .before .before .before .before .before .before .before .txid-at .ensures,
-  eq-eqb _ _ (c .before .before .before .before .before .before .before .before .before .before .if1 .left),
-  ← c .before .before .before .before .before .before .before .before .before .txid-at2 .ensures,
-  ne-eqb _ _ (c .before .before .before .before .before .before .before .if2 .left),
-  ne-eqb _ _ (c .before .before .before .before .if3 .left),
-  lt-leb _ _ (c .before .if4 .left),
-) (c .in-snapshot .ensures)
+returns-2 c = rw (ne-eqb _ _ (c .before .if1 .left)) (c .version-conflict .ensures)
 
 pub read-conflict-spec : {M : Type 1} → statement M
-read-conflict-spec =
-    tie.close (tie.spec (λ c κs. search needs) returns (λ c κs. search needs) returns-2 returns-3 returns-4 (λ c κs. search needs) returns-5)
+read-conflict-spec = tie.close (tie.spec (λ c κs. search needs) returns (λ c κs. search needs) returns-2)

@@ -1,16 +1,15 @@
 -- `reads_fit` meets its contract: what is left from place i on decides as the whole does.
-use mathlib.Core.Path.{_≡_}
+use mathlib.Core.Path.{_≡_, sym, _∙_}
 use Prim.Native.Nat.{_-_, _≤_}
 use native.Mathlib.Omega.{arith}
 use borrow.Author.Needs.{needs}
-use lib.ListN.{getD, take}
+use lib.ListN.{take}
 use Rattle.records.specs.Limits.{readLimit}
 use Rattle.records.specs.Zero.{noRead}
 use Rattle.rules.specs.Lists.{all}
 use Rattle.rules.specs.Fit.{readFit}
 use Rattle.fields.specs.Lent.{array}
 use Rattle.fields.specs.Scan.{firstLeft, first-pass, first-fail, first-none}
-use Rattle.fitting.specs.Fitting.{read-row, read-low, read-high, read-fits}
 use Rattle.fitting.proofs.tx.reads_fit.Statement.{statement}
 use Rattle.fitting.proofs.tx.reads_fit.Tie as tie
 
@@ -24,35 +23,20 @@ loop-holds : tie.Need-loop-holds Inv-loop μ-loop
 unfolding firstLeft
 loop-holds c = search needs
 
-returns : tie.Need-returns Inv-loop μ-loop
-returns c =
-    first-fail _ _ _ _ _ _ _ (c .before .before .loop .inv .1) (omega arith) (omega arith)
-    (read-row (getD (c .before .before .before .args .t1) (c .before .before .loop .i) noRead) (c .if1 .taken))
-
-returns-2 : tie.Need-returns-2 Inv-loop μ-loop
-returns-2 c =
-    first-fail _ _ _ _ _ _ _ (c .before .before .before .before .loop .inv .1) (omega arith) (omega arith)
-    (read-low (getD (c .before .before .before .before .before .args .t1) (c .before .before .before .before .loop .i) noRead) _
-    (c .before .place .ensures) (c .if2 .taken))
-
-returns-3 : tie.Need-returns-3 Inv-loop μ-loop
-returns-3 c =
-    first-fail _ _ _ _ _ _ _ (c .before .before .before .before .before .loop .inv .1) (omega arith) (omega arith)
-    (read-high (getD (c .before .before .before .before .before .before .args .t1) (c .before .before .before .before .before .loop .i) noRead)
-    _ (c .before .before .place .ensures) (c .if3 .taken))
-
 loop-again : tie.Need-loop-again Inv-loop μ-loop
 loop-again c = (
   omega arith,
-  first-pass _ _ _ _ _ _ _ (c .before .before .before .before .before .loop .inv .1) (omega arith) (omega arith)
-      (read-fits (getD (c .before .before .before .before .before .before .args .t1) (c .before .before .before .before .before .loop .i) noRead)
-      _ (c .before .before .place .ensures) (c .before .before .before .if1 .left) (c .before .if2 .left) (c .if3 .left)),
+  first-pass _ _ _ _ _ _ _ (c .before .before .before .before .loop .inv .1) (omega arith) (omega arith) (sym (c .before .read-fit .ensures) ∙ c .if1 .taken),
 )
 
-returns-4 : tie.Need-returns-4 Inv-loop μ-loop
-returns-4 c = first-none _ _ _ _ _ _ _ (c .before .loop .inv .1) (omega arith)
+returns : tie.Need-returns Inv-loop μ-loop
+returns c =
+    first-fail _ _ _ _ _ _ _ (c .before .before .before .before .loop .inv .1) (omega arith) (omega arith) (sym (c .before .read-fit .ensures) ∙ c .if1 .left)
+
+returns-2 : tie.Need-returns-2 Inv-loop μ-loop
+returns-2 c = first-none _ _ _ _ _ _ _ (c .before .loop .inv .1) (omega arith)
 
 pub reads-fit-spec : {M : Type 1} → statement M
 reads-fit-spec =
-    tie.close (tie.spec Inv-loop μ-loop loop-holds (λ c. search needs) (λ c. search needs) returns (λ c. search needs) (λ c. search needs)
-    (λ c κs. search needs) returns-2 returns-3 (λ c. search needs) (λ c. search needs) loop-again returns-4)
+    tie.close (tie.spec Inv-loop μ-loop loop-holds (λ c. search needs) (λ c. search needs) (λ c. search needs) (λ c. search needs) (λ c. search needs)
+    loop-again returns returns-2)

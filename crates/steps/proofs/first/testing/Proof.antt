@@ -27,7 +27,7 @@ returns-3 c = λ S d.
     rw (
       ← c .before .before .before .before .before .before .before .before .index-read-conflict .ensures S (d .stamps),
       ← c .before .before .before .before .before .has-row-lock-conflict .ensures S (d .heads) (d .locked) (d .owner) (d .active),
-      ← c .before .before .has-serialization-conflict .ensures S (d .xmin) (d .xmax),
+      ← c .before .before .has-serialization-conflict .ensures S (d .heads) (d .xmin) (d .xmax),
     ) (
     gate-goes _ _ _ _ _ (c .before .before .before .before .before .before .before .index-read-conflict2 .ensures)
     (c .before .before .before .before .before .before .if1 .left) (omega arith) (
@@ -40,7 +40,7 @@ returns-4 c = λ S d.
     rw (
       ← c .before .before .before .before .before .before .before .before .before .before .index-read-conflict .ensures S (d .stamps),
       ← c .before .before .before .before .before .before .before .has-row-lock-conflict .ensures S (d .heads) (d .locked) (d .owner) (d .active),
-      ← c .before .before .before .before .has-serialization-conflict .ensures S (d .xmin) (d .xmax),
+      ← c .before .before .before .before .has-serialization-conflict .ensures S (d .heads) (d .xmin) (d .xmax),
       d .heads,
       ← c .before .has-write-base-conflict .ensures,
     ) (
