@@ -10,7 +10,7 @@ use Rattle.rules.specs.Lists.{any}
 use Rattle.rules.specs.Types.{Store, Tx, Schedule, Cut, Uncut, Value}
 use Rattle.rules.specs.Admitted.{resting}
 use Rattle.rules.specs.Numbers.{numberOf}
-use Rattle.rules.specs.Calls.{begin, write, rowLock, abort}
+use Rattle.rules.specs.Calls.{begin, read, write, lookup, rowLock, abort}
 use Rattle.rules.specs.Recovery.{recover}
 use Rattle.rules.specs.Answer.{commit}
 use Rattle.statements.specs.Sized.{Sized, Keyed}
@@ -34,6 +34,16 @@ pub record RecordsAbsent (x : Tx) (r : ℕ) (y : Tx) : Type 0 where
   pub first : any (ofAbsent r) (itsReads x) ≡ false → itsReads y ≡ itsReads x ++ readOf r 0 0 ∷ []
   pub again : ReadAsAbsent x r → itsReads y ≡ itsReads x
   pub recorded : ReadAsAbsent y r
+
+-- and stays recorded to the transaction's end, whatever its further calls are given and answer
+pub record ReadStays (S : Store) (x : Tx) (r : ℕ) : Type 0 where
+  pub reads : (q : ℕ) → ReadAsAbsent (read S x q .tx) r
+  pub writes : (q : ℕ) (v : Value) → ReadAsAbsent (write S x q v .tx) r
+  pub looks : (k : ℕ) → ReadAsAbsent (lookup S x k .tx) r
+  pub locks : (q : ℕ) → ReadAsAbsent (rowLock S x q .tx) r
+
+abbrev pub ReadsStay : Type 0
+ReadsStay = (S : Store) (x : Tx) (r : ℕ) → ReadAsAbsent x r → ReadStays S x r
 
 -- its row's partition is guarded as any read row's
 abbrev pub AbsentGuarded : Type 0

@@ -76,12 +76,12 @@ rowId r = record { 0 = r }
 abbrev pub ofPtr : ℕ → ReadRecord → Bool
 ofPtr p e = eqb (e .ptr .0) p
 
+abbrev pub ofStripe : ℕ → IndexRead → Bool
+ofStripe i e = eqb (e .stripe) i
+
 -- the read of row r as absent: pointer 0, and that row
 abbrev pub ofAbsent : ℕ → ReadRecord → Bool
 ofAbsent r e = eqb (e .row .0) r && eqb (e .ptr .0) 0
-
-abbrev pub ofStripe : ℕ → IndexRead → Bool
-ofStripe i e = eqb (e .stripe) i
 
 -- a list in an array of n places with its count; every place behind it is the blank z
 pub record LaidOut {A : Type 0} (n : ℕ) (z : A) (l : List A) (array : List A) (count : ℕ) : Type 0 where
