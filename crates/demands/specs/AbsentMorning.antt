@@ -2,13 +2,15 @@
 use mathlib.Core.Path.{_≡_, refl}
 use mathlib.Core.Bool.{Bool, true, false}
 use mathlib.Core.List.{List, [], _∷_, _++_, map}
-use Prim.Native.Nat.{ℕ, zero, suc}
+use Prim.Native.Nat.{ℕ, zero, suc, _-_}
 use native.Mathlib.Omega.{arith}
 use Rattle.records.specs.Limits.{rows, slots, readLimit}
 use Rattle.records.specs.Zero.{noFaults}
-use Rattle.rules.specs.Types.{Store, Tx, Uncut, Key}
+use Rattle.rules.specs.Types.{Store, Tx, ReadRecord, Uncut, Key}
 use Rattle.rules.specs.Transaction.{readsOf, withReads}
 use Rattle.rules.specs.Fit.{fit}
+use Rattle.rules.specs.Numbers.{numberOf}
+use Rattle.rules.specs.Calls.{read}
 use Rattle.rules.specs.Tests.{readConflict}
 use Rattle.rules.specs.Replay.{Line, lineB, lineR, lineW, lineL, lineC, start, txAt}
 use Rattle.rules.specs.Computing.{computing}
@@ -96,17 +98,16 @@ pub recorded-so :
 unfolding morning done written computing
 recorded-so = refl
 
--- "counts toward the 32": as many absent rows as there are reads, one more, and one of them again
-abbrev reads : ℕ → List Line
-reads zero = []
-reads (suc n) = lineR 0 n ∷ reads n
+-- "counts toward the 32": the rows below n read as absent, and then row r
+abbrev absentBelow : ℕ → List ReadRecord
+absentBelow zero = []
+absentBelow (suc n) = readOf n 0 0 ∷ absentBelow n
 
-pub absent-full :
-    lastNumber (lineB 0 ∷ reads readLimit)
-    ∷ lastNumber (lineB 0 ∷ reads readLimit ++ lineR 0 readLimit ∷ [])
-    ∷ lastNumber (lineB 0 ∷ reads readLimit ++ lineR 0 0 ∷ [])
-    ∷ []
-    ≡ 0 ∷ 24 ∷ 0 ∷ []
+abbrev readAfter : ℕ → ℕ → ℕ
+readAfter n r = let ls = lineB 0 ∷ [] in numberOf (read (storeOf ls) (withReads (absentBelow n) (txOf ls)) r .refusal)
+
+-- the last that has a place; one more; one of them again
+pub absent-full : readAfter (readLimit - 1) readLimit ∷ readAfter readLimit readLimit ∷ readAfter readLimit 0 ∷ [] ≡ 0 ∷ 24 ∷ 0 ∷ []
 unfolding morning computing
 absent-full = refl
 

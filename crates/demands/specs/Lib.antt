@@ -14,6 +14,7 @@ pub mod Exhibits
 pub mod Minutes
 pub mod HeldMinutes
 -- wish 2: the read of an absent row
+pub mod HeadsStay
 pub mod AbsentRows
 pub mod AbsentMorning
 -- the stamps after every commit
