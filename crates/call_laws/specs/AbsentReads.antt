@@ -16,7 +16,7 @@ use Rattle.basic_laws.specs.Cases.{by}
 use Rattle.basic_laws.specs.AllOf.{any-append}
 use Rattle.basic_laws.specs.LaidOut.{take-pad}
 use Rattle.statements.specs.Sized.{Sized}
-use Rattle.statements.specs.ReadWords.{itsReads, ofAbsent, readOf, absent, missed}
+use Rattle.statements.specs.ReadWords.{itsReads, ofAbsent, readOf, absent, knownAbsent}
 use Rattle.statements.specs.AbsentWords.{AbsentRow, RecordsAbsent, ReadsStay}
 use Rattle.admitted_laws.specs.Resting.{Rests}
 use Rattle.sentences.specs.FirstLine.{either}
@@ -46,7 +46,7 @@ module _ (S : Store) (x : Tx) (L : ℕ → List ℕ) (z : Sized S) (R : Rests S 
       let new : any (ofAbsent r) l ≡ false → itsReads (read S x r .tx) ≡ l ++ readOf r 0 0 ∷ [] = λ k. reads-left S x r h
       ∙ sym (reading-one S x L z R (P .first .fits) r l (l ++ readOf r 0 0 ∷ []) Absent (P .row) (absent (A .unwritten) (A .unseen) k refl) .1) in
       let old : any (ofAbsent r) l ≡ true → itsReads (read S x r .tx) ≡ l = λ k. reads-left S x r h
-      ∙ sym (reading-one S x L z R (P .first .fits) r l l Absent (P .row) (missed (A .unwritten) (A .unseen) k refl) .1) in
+      ∙ sym (reading-one S x L z R (P .first .fits) r l l Absent (P .row) (knownAbsent (A .unwritten) (A .unseen) k refl) .1) in
       record {
         first = new;
         again = old;

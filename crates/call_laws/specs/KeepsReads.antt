@@ -23,7 +23,7 @@ use Rattle.admitted_laws.specs.Resting.{Rests, rests}
 use Rattle.sentences.specs.Refusals.{read-accepted}
 use Rattle.call_laws.specs.Passed.{read-passed}
 use Rattle.basic_laws.specs.Blanks.{all-more, drop-pad}
-use Rattle.statements.specs.ReadWords.{Reading, own, found, known, absent, missed, readOf}
+use Rattle.statements.specs.ReadWords.{Reading, own, found, known, absent, knownAbsent, readOf}
 use Rattle.call_laws.specs.ReadLaws.{mem-mid, reading}
 use Rattle.call_laws.specs.Counts.{SizedTx, blankRead, counts-parts, parts-counts}
 use Rattle.call_laws.specs.Keeps.{Keeps}
@@ -40,7 +40,7 @@ module _ (S : Store) (x : Tx) (L : ℕ → List ℕ) (z : Sized S) (R : Rests S 
       (cons-every _ _ (or-left _ _ (and-both _ _ (le-leb 1 p (b .0)) (le-leb p slots (omega (arith, b .1, z .next))))) every-none))
   reading-fits r lt (known p e F k v) h = h
   reading-fits {l} r lt (absent e s k v) h = all-more readFit l (readOf r 0 0) h (cons-every _ _ (lt-ltb r rows lt) (cons-every _ _ refl every-none))
-  reading-fits r lt (missed e s k v) h = h
+  reading-fits r lt (knownAbsent e s k v) h = h
 
   -- a fit transaction with other fit reads is fit
   pub reads-fit : fit S x ≡ true → (l : List ReadRecord) → length l ≤ readLimit → all readFit l ≡ true → fit S (withReads l x) ≡ true

@@ -11,7 +11,7 @@ use lib.Dec.{eqb, ltb}
 use borrow.Author.Tests.{eqb-false, ne-eqb, ltb-true, ltb-false, lt-ltb, le-ltb, le-leb, not-true}
 use Rattle.records.specs.Limits.{rows, readLimit, indexReadLimit, lastMinute}
 use Rattle.records.specs.Relations.{stripes-read, stripes-some}
-use Rattle.records.specs.Zero.{noRead, noIndexRead}
+use Rattle.records.specs.Zero.{noIndexRead}
 use Rattle.rules.specs.Lists.{any, memb}
 use Rattle.rules.specs.Types.{Store, Tx, ReadRecord, IndexRead, Key}
 use Rattle.rules.specs.Store.{posting, valueAt, stripeOf, postingsOf, activeTxids}

@@ -23,7 +23,7 @@ use Rattle.basic_laws.specs.Chain.{chain-below}
 use Rattle.basic_laws.specs.Chained.{chained-from}
 use Rattle.statements.specs.Sized.{Sized}
 use Rattle.statements.specs.ReadWords.{VisibleAt, FirstIn, NoneIn, itsWrites, LastOf, ofRow, ofPtr, readOf, Reads, ReadTooMany}
-use Rattle.statements.specs.ReadWords.{ofAbsent, Reading, own, found, known, absent, missed, ApartReads, RecordedOnce}
+use Rattle.statements.specs.ReadWords.{ofAbsent, Reading, own, found, known, absent, knownAbsent, ApartReads, RecordedOnce}
 use Rattle.basic_laws.specs.TestParts.{fit-parts, write-parts}
 use Rattle.basic_laws.specs.Members.{pairs}
 use Rattle.basic_laws.specs.EachTwo.{each-pair}
@@ -173,7 +173,7 @@ module _ (S : Store) (x : Tx) (L : ℕ → List ℕ) (z : Sized S) (R : Rests S 
       (λ k. rw (first-read r p lt e F, last-none r (writesOf x) e, same-version r p (found-some r p lt F), k) (found p e F k (value-says S p))))
       (λ s. let n = none-of S x (L r) s in
       by (any (ofAbsent r) l)
-      (λ k. rw (none-read r lt e n, last-none r (writesOf x) e, k) (missed e n k no-value))
+      (λ k. rw (none-read r lt e n, last-none r (writesOf x) e, k) (knownAbsent e n k no-value))
       (λ k. rw (none-read r lt e n, last-none r (writesOf x) e, k, R .mends .slots .first) (absent e n k no-value))))
 
   -- and nothing else is: a reading has one value and one list of reads
@@ -192,7 +192,7 @@ module _ (S : Store) (x : Tx) (L : ℕ → List ℕ) (z : Sized S) (R : Rests S 
   reading-one r l m v lt (absent e n k h) =
       let q = none-read r lt e n in
       (rw q (h ∙ sym no-value), rw (q, last-none r (writesOf x) e, k, R .mends .slots .first))
-  reading-one r l m v lt (missed e n k h) =
+  reading-one r l m v lt (knownAbsent e n k h) =
       let q = none-read r lt e n in
       (rw q (h ∙ sym no-value), rw (q, last-none r (writesOf x) e, k))
 
@@ -282,4 +282,4 @@ once {S} {x} {r} {c} {l} (found p n f k h) u =
 once (known p n f k h) u = u
 once {S} {x} {r} {c} {l} (absent n f k h) u =
     let e = readOf r 0 0 in apart-says (l ++ e ∷ []) .0 (apart-more l e (new-row r l k) (apart-says l .1 u))
-once (missed n f k h) u = u
+once (knownAbsent n f k h) u = u

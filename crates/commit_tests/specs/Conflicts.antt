@@ -36,19 +36,16 @@ pub row-lock-of : (S : Store) (x : Tx) {heads owner active : List ℕ} {locked :
 unfolding rowLockConflict headLocked lockedByAnother lockedOf
 row-lock-of S x h l o a = rw (h, l, o, a)
 
--- 13: a read conflicts, of a version and of any row, from the parts of the transaction that the test looks at
-unfoldable pub versionConflictOf : List ℕ → List ℕ → List ℕ → ℕ → ℕ → ReadRecord → Bool
-versionConflictOf xmin xmax snapshot me end e =
-    let b = getD xmax (e .ptr .0) 0 in
-    not (eqb (getD xmin (e .ptr .0) 0) (e .xmin .0)) || (not (eqb b 0 || eqb b me) && (leb end b || memb b snapshot))
-
+-- 13: a read conflicts, of an absent row or of a version, from the parts of the transaction that the test looks at
 unfoldable pub readConflictOf : List ℕ → List ℕ → List ℕ → List ℕ → ℕ → ℕ → ReadRecord → Bool
 readConflictOf heads xmin xmax snapshot me end e =
-    cond (eqb (e .ptr .0) 0) (not (eqb (getD heads (e .row .0) 0) 0)) (versionConflictOf xmin xmax snapshot me end e)
+    let b = getD xmax (e .ptr .0) 0 in
+    cond (eqb (e .ptr .0) 0) (not (eqb (getD heads (e .row .0) 0) 0))
+    (not (eqb (getD xmin (e .ptr .0) 0) (e .xmin .0)) || (not (eqb b 0 || eqb b me) && (leb end b || memb b snapshot)))
 
 pub serialization-of : (S : Store) (x : Tx) {heads xmin xmax : List ℕ} → S .heads ≡ heads → S .xmin ≡ xmin → S .xmax ≡ xmax
     → any (readConflictOf heads xmin xmax (snapshotOf x) (x .txid .0) (x .«snapshot_xmax» .0)) (readsOf x) ≡ serializationConflict S x
-unfolding serializationConflict readConflict versionConflictOf readConflictOf
+unfolding serializationConflict readConflict readConflictOf
 serialization-of S x h m n = rw (h, m, n)
 
 -- 14: a final write's base is not the head

@@ -6,7 +6,7 @@ ghost use Rattle.rules.specs.Types.{Store};
 ghost use Rattle.rules.specs.Lists.{any};
 ghost use Rattle.rules.specs.Tests.{indexReadConflict, rowLockConflict, serializationConflict};
 ghost use Rattle.fields.specs.Lent.{atRows, atPlaces, flagsAtPlaces, atActive, atStripes};
-ghost use Rattle.commit_tests.specs.Conflicts.{versionConflictOf, readConflictOf, baseMoved};
+ghost use Rattle.commit_tests.specs.Conflicts.{readConflictOf, baseMoved};
 use super::finals::Finals;
 use fields::lent::clipped;
 use fields::lent::head_of;
@@ -65,37 +65,8 @@ pub fn has_row_lock_conflict<'a>(
     false
 }
 
-// One read of a version: a changed xmin conflicts first; xmax 0 or own is none; xmax at or above snapshot_xmax, or in the snapshot, conflicts.
-fn version_conflict<'a>(
-    xmin: &'a [u64; SlotPtr::PLACES],
-    xmax: &'a [u64; SlotPtr::PLACES],
-    snapshot: &'a [u64; Txid::ACTIVE],
-    count: usize,
-    me: Txid,
-    end: Txid,
-    e: ReadRecord,
-) -> bool
-    ensures { λ r. ⌜ r ≡ versionConflictOf (atPlaces (now (xmin .entry))) (atPlaces (now (xmax .entry)))
-        (take count (atActive (now (snapshot .entry)))) (me .0) (end .0) e ⌝ }
-{
-    let creator = txid_at(xmin, e.ptr);
-    if creator.0 != e.xmin.0 {
-        return true;
-    }
-    let ender = txid_at(xmax, e.ptr);
-    if ender.0 == 0 {
-        return false;
-    }
-    if ender.0 == me.0 {
-        return false;
-    }
-    if end.0 <= ender.0 {
-        return true;
-    }
-    in_snapshot(snapshot, count, ender)
-}
-
-// One read: of an absent row that has a head now, or of a version.
+// One read. Of an absent row: it has a head now. Of a version: a changed xmin conflicts first; xmax 0 or own is none; xmax at or above snapshot_xmax,
+// or in the snapshot, conflicts.
 fn read_conflict<'a>(
     heads: &'a [u32; RowId::ROWS],
     xmin: &'a [u64; SlotPtr::PLACES],
@@ -113,7 +84,21 @@ fn read_conflict<'a>(
         let head = head_of(heads, e.row);
         return head.0 != 0;
     }
-    version_conflict(xmin, xmax, snapshot, count, me, end, e)
+    let creator = txid_at(xmin, e.ptr);
+    if creator.0 != e.xmin.0 {
+        return true;
+    }
+    let ender = txid_at(xmax, e.ptr);
+    if ender.0 == 0 {
+        return false;
+    }
+    if ender.0 == me.0 {
+        return false;
+    }
+    if end.0 <= ender.0 {
+        return true;
+    }
+    in_snapshot(snapshot, count, ender)
 }
 
 // 13: a read conflicts.

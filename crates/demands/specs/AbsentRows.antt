@@ -18,13 +18,13 @@ use Rattle.rules.specs.Commit.{End, runOf}
 use Rattle.rules.specs.Answer.{uncut, cutOff, answer, commit}
 use Rattle.basic_laws.specs.Cases.{by, clash, and-true, or-true, or-left, or-right}
 use Rattle.basic_laws.specs.AllOf.{any-then}
-use Rattle.run_laws.specs.FirstRows.{every-commit, stay-not, abort-not, success}
+use Rattle.run_laws.specs.FirstRows.{every-commit, done-store, stay-not, abort-not, success}
 use Rattle.run_laws.specs.Outcome.{Outcome, done, stays, aborts, uninserted, uncalled, spoils, unstamped, outcome}
 use Rattle.call_laws.specs.CommitOthers.{commit-others}
 use Rattle.statements.specs.Words.{Some, stands}
 use Rattle.statements.specs.ReadWords.{ofAbsent}
 use Rattle.statements.specs.AbsentWords.{ReadAsAbsent, HasHead, AbsentGuarded, NeverDone, NothingShown, AnsweredSeven, SecondRefused, BothAdded}
-use Rattle.demands.specs.HeadsStay.{whole-run, gives-head}
+use Rattle.demands.specs.HeadsStay.{gives-head}
 use Rattle.demands.specs.Demand2.{demand-2}
 use Rattle.demands.specs.Demand3.{demand-3}
 
@@ -103,7 +103,7 @@ second-refused S x y r lx ly px py P w a e =
     let o = P .other in
     let G = commit-others S x y lx px (P .sized) (P .apart) (o .ok .fits, o .ok .active) Uncut in
     let bound : T .bound ≡ S .bound =
-    ap (λ (U : Store). U .bound) (whole-run S x lx px (P .sized) (q .ok) d) ∙ bound-kept (runOf S x lx px .puts) S in
+    ap (λ (U : Store). U .bound) (done-store S x lx px Uncut (q .ok) d) ∙ bound-kept (runOf S x lx px .puts) S in
     answered-seven T y r ly py (record {
       ok = record { rests = C .rests; fits = G .0; planned = o .ok .planned; active = G .1 };
       faultless = o .faultless;

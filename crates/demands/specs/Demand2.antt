@@ -3,25 +3,24 @@
 use mathlib.Core.Path.{_≡_, refl, sym, ap, _∙_, subst}
 use mathlib.Core.Bool.{Bool, true, false, cond, _&&_}
 use mathlib.Core.List.{List, [], _∷_, _++_}
-use mathlib.Core.Logic.{_↔_, _≢_, _⊎_}
+use mathlib.Core.Logic.{_↔_}
 use Prim.Native.Nat.{ℕ, _≤_, _<_}
 use native.Mathlib.Omega.{arith}
 use lib.ListN.{length, getD, length-take}
 use borrow.Author.Tests.{eqb-true, leb-true}
 use Rattle.records.specs.Limits.{rows, writeLimit}
 use Rattle.rules.specs.Lists.{memb, isZero}
-use Rattle.rules.specs.Types.{Store, Tx, Schedule, Answer, Cut, Uncut}
-use Rattle.rules.specs.Store.{activeTxids, postingsOf}
-use Rattle.rules.specs.Transaction.{writesOf, readsOf, indexReadsOf, finalWrites, finals}
+use Rattle.rules.specs.Types.{Store, Tx, Schedule, Answer, Uncut}
+use Rattle.rules.specs.Store.{activeTxids}
+use Rattle.rules.specs.Transaction.{writesOf, finals}
 use Rattle.rules.specs.Chains.{walk, on}
-use Rattle.rules.specs.Admitted.{headPostings, resting}
+use Rattle.rules.specs.Admitted.{resting}
 use Rattle.rules.specs.Fit.{fit}
 use Rattle.rules.specs.Numbers.{numberOf, isDone}
 use Rattle.rules.specs.Puts.{kStripe, kPartition, kInsert, kRemove, kXmax, kHead, kFree, kDrop, kStamp, kPoison, kDoom, putDrop, applyAll}
-use Rattle.rules.specs.Calls.{abort}
 use Rattle.rules.specs.Tests.{conflicting}
 use Rattle.rules.specs.Changes.{release, insertions, removals, publication, recycling, stamping}
-use Rattle.rules.specs.Commit.{runOf, fails, unloggedWrites}
+use Rattle.rules.specs.Commit.{runOf, unloggedWrites}
 use Rattle.rules.specs.Answer.{uncut, commit}
 use Rattle.basic_laws.specs.Cases.{clash, by, or-left}
 use Rattle.basic_laws.specs.TestParts.{fit-parts}
@@ -32,9 +31,9 @@ use Rattle.statements.specs.CallWords.{ListsEmptied, OnlyTxid, Names}
 use Rattle.run_laws.specs.OnlyKinds.{only, only-both, kept, is-not}
 use Rattle.run_laws.specs.Outcome.{guardsTaken, afterInsert, afterRemove, afterPublish, afterRecycle, afterFinish, afterStamp, outcome}
 use Rattle.statements.specs.Demands.{Demand2, Demand2Aborts, Demand2Abort}
-use Rattle.statements.specs.Words.{Conflicts, Committed, Admitted, shown, stands, Freed, abortedNumber, rowValue}
+use Rattle.statements.specs.Words.{Conflicts, Committed, Admitted, shown, stands, rowValue}
 use Rattle.run_laws.specs.FourTests.{either, index-reads-say, row-locks-say, serialization-says, write-bases-say}
-use Rattle.run_laws.specs.FirstRows.{success, whole, only-done}
+use Rattle.run_laws.specs.FirstRows.{success, whole, done-store, only-done}
 use Rattle.run_laws.specs.Aftermath.{row-0}
 use Rattle.statements.specs.Sized.{Sized, Keyed}
 use Rattle.run_laws.specs.Kinds.{taken-kinds, release-kinds, insertions-kind, removals-kind, publication-kinds, recycling-kind, stamping-kind}
@@ -114,7 +113,7 @@ module _ (S : Store) (x : Tx) (logged : Bool) (plan : Schedule) where
     -- the store is that of the whole run
     ran : isDone (A .refusal) ≡ true → (A .store ≡ applyAll (runOf S x logged plan .puts) S) × (stands (runOf S x logged plan .end .refusal) ≡ true)
     unfolding uncut
-    ran d = let u = whole S x logged plan Uncut ok isZero refl d in (rw u, or-left _ _ (rw u at d))
+    ran d = (done-store S x logged plan Uncut ok d, or-left _ _ (rw (whole S x logged plan Uncut ok isZero refl d) at d))
 
     -- and what success leaves: the record, the rows, the postings, the active list
     leaves : isDone (A .refusal) ≡ true → Committed S x A

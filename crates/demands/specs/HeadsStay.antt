@@ -23,7 +23,7 @@ use Rattle.basic_laws.specs.AllOf.{all-then, all-take, any-append}
 use Rattle.run_laws.specs.OnlyKinds.{only, is-not}
 use Rattle.run_laws.specs.Kinds.{recycling-kind, abort-kinds}
 use Rattle.run_laws.specs.FinalWrites.{finals-all, finals-some}
-use Rattle.run_laws.specs.FirstRows.{every-commit, whole, only-done}
+use Rattle.run_laws.specs.FirstRows.{every-commit, whole, done-store, only-done}
 use Rattle.run_laws.specs.Outcome.{outcome, afterRemove, afterPublish, afterRecycle, afterFinish, afterStamp}
 use Rattle.admitted_laws.specs.Resting.{rests}
 use Rattle.recovery_laws.specs.Calm.{calm}
@@ -143,10 +143,6 @@ heads-stay S r x z n = record {
 -- a commit that answers 0 gives each row that it writes a head
 module _ (S : Store) (x : Tx) (logged : Bool) (plan : Schedule) (z : Sized S) (ok : Admitted S x plan)
     (d : isDone (commit S x logged plan Uncut .refusal) ≡ true) where
-  pub whole-run : commit S x logged plan Uncut .store ≡ applyAll (runOf S x logged plan .puts) S
-  unfolding uncut
-  whole-run = rw (whole S x logged plan Uncut ok isZero refl d)
-
   run-gives : (r : ℕ) → WritesRow x r → any (gives r) (runOf S x logged plan .puts) ≡ true
   unfolding publication finals uncut
   run-gives r w =
@@ -162,5 +158,5 @@ module _ (S : Store) (x : Tx) (logged : Bool) (plan : Schedule) (z : Sized S) (o
 
   pub gives-head : (r : ℕ) → WritesRow x r → HasHead (commit S x logged plan Uncut .store) r
   gives-head r w =
-      rw whole-run (puts-give (runOf S x logged plan .puts) S r (rw (z .heads) (written-below S x (ok .fits) r w))
+      rw (done-store S x logged plan Uncut ok d) (puts-give (runOf S x logged plan .puts) S r (rw (z .heads) (written-below S x (ok .fits) r w))
       (run-leaves S x logged plan z ok) (run-gives r w))

@@ -75,6 +75,12 @@ module _ (S : Store) (x : Tx) (logged : Bool) (plan : Schedule) where
       go Uncut k = refl
       go (After n) k = by (ltb n (length (runOf S x logged plan .puts))) (λ e. clash (rw e at k) z) (λ e. rw e)
 
+  -- so a commit that answers 0 leaves the store of the whole run
+  pub done-store : (cut : Cut) → Admitted S x plan → isDone (commit S x logged plan cut .refusal) ≡ true
+      → commit S x logged plan cut .store ≡ applyAll (runOf S x logged plan .puts) S
+  unfolding uncut
+  done-store cut ok d = rw (whole cut ok isZero refl d)
+
 -- which numbers each family can't give: a test of numbers that is false at a family's own numbers is false there
 module _ {S : Store} {x : Tx} {logged : Bool} {plan : Schedule} (T : ℕ → Bool) where
   pub stay-not : {kind : Fate → Refusal} → T 4 ≡ false → T 8 ≡ false → Stay S x logged plan kind → (f : Fate) → T (numberOf (kind f)) ≡ false

@@ -1,10 +1,10 @@
 -- Numbers 1, 2, 3, 9, 21 to 28 and 31: when each call beside commit gives which, with which fate; and that a refused call changes nothing.
 use mathlib.Core.Path.{_≡_, refl}
 use mathlib.Core.Bool.{not, _&&_, _||_}
-use mathlib.Core.List.{List, [], _∷_, _++_, map}
+use mathlib.Core.List.{[], _∷_, _++_, map}
 use Prim.Native.Nat.{ℕ, suc}
 use lib.ListN.{length, getD, replicate}
-use lib.Dec.{eqb, ltb, leb}
+use lib.Dec.{eqb, ltb}
 use borrow.Author.Tests.{eq-eqb, ne-eqb}
 use Rattle.records.specs.Limits.{rows, lastMinute}
 use Rattle.records.specs.Zero.{onlyTxid, zeroTx}

@@ -118,7 +118,7 @@ pub data Reading (S : Store) (x : Tx) (r : ℕ) (c : List ℕ) (l : List ReadRec
   known : (p : ℕ) → any (ofRow r) (itsWrites x) ≡ false → FirstIn (VisibleAt S x) c p → any (ofPtr p) l ≡ true → HasValue S p v → Reading S x r c l v l
   absent : any (ofRow r) (itsWrites x) ≡ false → NoneIn (VisibleAt S x) c → any (ofAbsent r) l ≡ false → v ≡ Absent
       → Reading S x r c l v (l ++ readOf r 0 0 ∷ [])
-  missed : any (ofRow r) (itsWrites x) ≡ false → NoneIn (VisibleAt S x) c → any (ofAbsent r) l ≡ true → v ≡ Absent → Reading S x r c l v l
+  knownAbsent : any (ofRow r) (itsWrites x) ≡ false → NoneIn (VisibleAt S x) c → any (ofAbsent r) l ≡ true → v ≡ Absent → Reading S x r c l v l
 
 -- "once per pointer", "once per row": of two reads the pointers differ, or both are of absent rows and the rows do
 abbrev pub ApartReads : ReadRecord → ReadRecord → Type 0

@@ -33,7 +33,7 @@ use Rattle.basic_laws.specs.Rising.{rising-from}
 use Rattle.basic_laws.specs.TestParts.{fit-parts}
 use Rattle.statements.specs.Sized.{Sized}
 use Rattle.statements.specs.ReadWords.{InSnapshot, Visible, VisibleAt, NoneIn, FirstIn, LastOf, ofRow, itsWrites, HasValue}
-use Rattle.statements.specs.ReadWords.{readOf, Kept, Reading, own, found, known, absent, missed, InTurn, done, next}
+use Rattle.statements.specs.ReadWords.{readOf, Kept, Reading, own, found, known, absent, knownAbsent, InTurn, done, next}
 use Rattle.sentences.specs.Forged.{forged}
 use Rattle.sentences.specs.ReadsSay.{in-snapshot, meant-none, first-one}
 use Rattle.admitted_laws.specs.Repairable.{marks}
@@ -274,13 +274,13 @@ module _ (S : Store) (x : Tx) (L : ℕ → List ℕ) (z : Sized S) (R : Rests S 
   reading-selected r lt (found p n F k h) = seen p n (first-then S x below f L R healthy r (omega (arith, z .heads)) p F) h
   reading-selected r lt (known p n F k h) = seen p n (first-then S x below f L R healthy r (omega (arith, z .heads)) p F) h
   reading-selected r lt (absent n k a h) = neither n (none-then S x below f L R healthy r (omega (arith, z .heads)) k) h
-  reading-selected r lt (missed n k a h) = neither n (none-then S x below f L R healthy r (omega (arith, z .heads)) k) h
+  reading-selected r lt (knownAbsent n k a h) = neither n (none-then S x below f L R healthy r (omega (arith, z .heads)) k) h
 
   -- one reading more
   pub reading-observed : {l m : List ReadRecord} {v : Value} (r : ℕ) → r < rows → Reading S x r (L r) l v m → Extends l m
   reading-observed {l} r lt (own w o h) = ([], sym (append-nil l), tt)
   reading-observed {l} r lt (known p n F k h) = ([], sym (append-nil l), tt)
-  reading-observed {l} r lt (missed n k a h) = ([], sym (append-nil l), tt)
+  reading-observed {l} r lt (knownAbsent n k a h) = ([], sym (append-nil l), tt)
   reading-observed {l} r lt (absent n k a h) = (
     readOf r 0 0 ∷ [],
     refl,
