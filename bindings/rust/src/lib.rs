@@ -4,8 +4,9 @@
 //!
 //! A script is lines of fields with a tab between them, each ended by a line feed: `B 0` begins a
 //! transaction at place 0, `W 0 3 415` writes key 415 to row 3, `C 0 u` commits. An answer is the line's
-//! number, the number of what happened (0: done) and a value. `docs/SCRIPT.md` has every form, and
-//! what the value is for each; `docs/NUMBERS.md` has the numbers, whose texts [`Refusal`] shows.
+//! number, the number of what happened (0: done) and a value; a conflict, number 7, also names its
+//! [`Cause`]. `docs/SCRIPT.md` has every form, and what the value is for each; `docs/NUMBERS.md` has
+//! the numbers, whose texts [`Refusal`] shows.
 //! Any bytes will do: a line that is none of the forms is answered 2 and changes nothing. Each replay
 //! starts from the empty store.
 //!
@@ -28,7 +29,7 @@
 //! # Stack
 //!
 //! A replay has no heap and no state between calls: the store and the transactions are on the caller's
-//! stack, some 393 KB at the deepest call, however long the script (measured on threads of given
+//! stack, some 395 KB at the deepest call, however long the script (measured on threads of given
 //! sizes: `examples/stack.rs`). A Rust thread of default size, 2 MB, does, and so does one of 512 KB:
 //! a test runs on each.
 //!
@@ -44,7 +45,7 @@
 mod answer;
 mod refusal;
 
-pub use answer::{Answer, Answers};
+pub use answer::{Answer, Answers, Cause};
 pub use refusal::Refusal;
 
 use std::error::Error;
@@ -78,7 +79,7 @@ impl fmt::Display for Short {
 
 impl Error for Short {}
 
-/// So many bytes surely hold the answers to `script`: 63 for each line feed and 63 more, or
+/// So many bytes surely hold the answers to `script`: 105 for each line feed and 105 more, or
 /// `usize::MAX` where that is no `usize`.
 pub fn room(script: &[u8]) -> usize {
     // SAFETY: pointer and length are those of a slice, which is only read, during the call.

@@ -4,7 +4,7 @@ use std::fs;
 use std::path::Path;
 use std::thread;
 
-use slack::{Answer, Refusal, Short, answers, replay, replay_into, room};
+use slack::{Answer, Cause, Refusal, Short, answers, replay, replay_into, room};
 
 /// The example of document 01.
 const SCRIPT: &[u8] = b"B\t0\nW\t0\t3\t35\nC\t0\tu\nB\t0\nR\t0\t3\nC\t0\tl\n";
@@ -90,10 +90,10 @@ fn nothing_and_bad_lines() {
 }
 
 #[test]
-fn the_room_is_63_bytes_a_line_feed_and_63_more() {
-    assert_eq!(room(b""), 63);
-    assert_eq!(room(b"V"), 63);
-    assert_eq!(room(SCRIPT), 7 * 63);
+fn the_room_is_105_bytes_a_line_feed_and_105_more() {
+    assert_eq!(room(b""), 105);
+    assert_eq!(room(b"V"), 105);
+    assert_eq!(room(SCRIPT), 7 * 105);
 }
 
 #[test]
@@ -113,17 +113,20 @@ fn a_buffer_with_the_room_and_one_byte_too_short() {
     assert_eq!(replay_into(SCRIPT, &mut []), Err(Short { room, len: 0 }));
     assert_eq!(
         why.to_string(),
-        "a buffer of 440 bytes, where 441 are asked for"
+        "a buffer of 734 bytes, where 735 are asked for"
     );
 }
 
 /// An empty script has no answers, and a short buffer is told from it.
 #[test]
 fn an_empty_script_into_a_buffer() {
-    assert_eq!(replay_into(b"", &mut [0; 63]), Ok(0));
+    assert_eq!(replay_into(b"", &mut [0; 105]), Ok(0));
     assert_eq!(
-        replay_into(b"", &mut [0; 62]),
-        Err(Short { room: 63, len: 62 })
+        replay_into(b"", &mut [0; 104]),
+        Err(Short {
+            room: 105,
+            len: 104
+        })
     );
 }
 
@@ -142,6 +145,7 @@ fn typed_answers() {
         line: 1,
         number: 0,
         value: Some(1),
+        cause: None,
     };
     assert_eq!(typed.next(), Some(first));
     assert_eq!(typed.len(), 4);
@@ -180,6 +184,23 @@ fn a_result_is_the_value_or_the_refusal() {
         .collect();
     assert_eq!(results[..2], [Ok(Some(1)), Ok(None)]);
     assert_eq!(results[2].unwrap_err().number(), 23);
+}
+
+/// Test 13 refuses the first, whose only read was replaced; the second met a busy guard. No other answer has a cause.
+#[test]
+fn a_conflict_names_its_test_and_its_place() {
+    let script = b"B\t0\nW\t0\t3\t415\nC\t0\tl\n\
+        B\t1\nB\t2\nR\t2\t3\nW\t1\t3\t421\nW\t2\t3\t418\nC\t1\tl\nC\t2\tl\nB\t3\nF\t7\tB\t0\nC\t3\tu\n";
+    let caused: Vec<_> = answers(script)
+        .filter(|answer| answer.cause.is_some())
+        .collect();
+    let told: Vec<_> = caused.iter().map(|a| (a.line, a.number, a.cause)).collect();
+    let serial = Cause { test: 13, place: 0 };
+    let busy = Cause { test: 0, place: 0 };
+    assert_eq!(told, [(10, 7, Some(serial)), (13, 7, Some(busy))]);
+    let text = caused[0].to_string();
+    assert_eq!(text.split('\t').count(), 5);
+    assert!(text.ends_with("\t13\t0"), "{text}");
 }
 
 /// A key is a minute of the year: the last is written, the next refused.

@@ -5,6 +5,8 @@ pub mod Rearranged
 -- lists, and tests of lists
 pub mod Members
 pub mod AllOf
+pub mod FirstTrue
+pub mod FinalPlaces
 pub mod Rising
 pub mod EachTwo
 pub mod Blanks

@@ -4,11 +4,11 @@ use mathlib.Core.Bool.{Bool, true, false, _||_}
 use mathlib.Core.List.{List, [], _∷_, map}
 use Prim.Native.Nat.{ℕ, _≤_}
 use native.Mathlib.Omega.{arith}
-use lib.ListN.{length, getD, take}
+use lib.ListN.{length, getD}
 use Rattle.records.specs.Limits.{rows, places, stripes, activeLimit, writeLimit}
 use Rattle.records.specs.Zero.{noWrite}
 use Rattle.statements.specs.Sized.{Sized}
-use Rattle.rules.specs.Lists.{pad}
+use Rattle.rules.specs.Lists.{pad, firstTrue}
 use Rattle.rules.specs.Types.{Store, Tx, Schedule}
 use Rattle.rules.specs.Transaction.{finals}
 use Rattle.rules.specs.Chains.{walk}
@@ -25,13 +25,13 @@ use Rattle.commit_tests.specs.declared.faults.Letters.{Letters}
 use Rattle.commit_tests.specs.Conflicts.{Lends}
 use Rattle.commit_tests.specs.Striking.{letters, letterAt, countAt, letters-say, counts-say}
 use Rattle.steps.specs.GateTable.{cleanGate}
-use Rattle.steps.specs.Stops.{firstTrue, letterIn, hits, gateOf}
+use Rattle.steps.specs.Stops.{letterIn, hits, gateOf}
 use Rattle.steps.specs.RunFound.{run-puts}
 use Rattle.commit_tests.specs.FinalTurns.{finalsLaid}
 use Rattle.commit.specs.declared.plan.run.Struck.{Struck}
 use Rattle.commit.specs.declared.plan.run.Plan.{Plan}
 use Rattle.commit.specs.Plan.Parts.{putsAt}
-use Rattle.commit.specs.Plan.Planned.{planOf, planFrom, struckOf, Planned, finals-taken, plan-is}
+use Rattle.commit.specs.Plan.Planned.{planOf, planFrom, struckOf, Planned, plan-is}
 use Rattle.commit.specs.Plan.Held.{run-held}
 
 -- a store lends its own fields
@@ -60,9 +60,6 @@ laid-at x e = ap (λ (g : Finals). g .at) e
 pub laid-count : (x : Tx) {f : Finals} → f ≡ finalsLaid x → f .count ≡ length (finals x)
 unfolding finalsLaid
 laid-count x e = ap (λ (g : Finals). g .count) e
-
-pub laid-taken : (S : Store) (x : Tx) → fit S x ≡ true → {f : Finals} → f ≡ finalsLaid x → take (f .count) (f .at) ≡ finals x
-laid-taken S x ok e = rw (laid-at x e, laid-count x e) (finals-taken S x ok)
 
 -- the plan from the store's arrays, the marks of its walk and the final writes is the commit's
 pub plan-told : (S : Store) (x : Tx) → Sized S → fit S x ≡ true → {p : Plan} {f : Finals} {seen : List ℕ} → f ≡ finalsLaid x

@@ -18,8 +18,10 @@ use Rattle.journal.specs.Journal.{putLimit, puts, Holds}
 use Rattle.journal.specs.Holds.{holds-count, holds-cut}
 use Rattle.commit_tests.specs.declared.faults.Letters.{Letters}
 use Rattle.commit_tests.specs.Striking.{letters}
+use Rattle.steps.specs.declared.first.Stop.{Stop}
 use Rattle.steps.specs.GateTable.{cleanGate, numberAt, passedAt, leftAt}
 use Rattle.steps.specs.Stops.{letterIn, gateOf}
+use Rattle.steps.specs.Causes.{causeAt}
 use Rattle.steps.specs.RecordAndEvents.{recordIf, eventsBy}
 use Rattle.steps.specs.Ends.{endingFor, txFor}
 use Rattle.steps.specs.RunFound.{answered}
@@ -33,10 +35,11 @@ stopAt (After k) n = min k n
 unfoldable pub cutAnswer : Store → ℕ → Answer
 cutAnswer T n = record { refusal = CutOff Closed; «record» = noRecord; store = T; tx = zeroTx; events = noEvents; stores = n }
 
--- all n stores made, by the gate
-unfoldable pub wholeAnswer : Store → Tx → Bool → Bool → Letters → ℕ → ℕ → Answer
-wholeAnswer T x logged bound l g n =
-    let a = endingFor (letterIn l) (numberAt g) in
+-- all n stores made, by the gate and the cause
+unfoldable pub wholeAnswer : Store → Tx → Bool → Bool → Letters → Stop → ℕ → Answer
+wholeAnswer T x logged bound l s n =
+    let g = s .gate in
+    let a = endingFor (letterIn l) (s .cause) (numberAt g) in
     record {
       refusal = a .refusal;
       «record» = recordIf (leb cleanGate g) x;
@@ -94,12 +97,13 @@ module _ (S : Store) (x : Tx) (logged : Bool) (plan : Schedule) (cut : Cut) {j :
       })
       ∙ cut-is cut stop l
 
-  pub run-whole : {a : Answer} (g : ℕ) → g ≡ gateOf S x logged plan → (l : Letters) → l ≡ letters plan
-      → a ≡ wholeAnswer T x logged (S .bound) l g n → n ≤ m → a ≡ answer S x logged (runOf S x logged plan) cut
+  pub run-whole : {a : Answer} (s : Stop) → s .gate ≡ gateOf S x logged plan → s .cause ≡ causeAt S x (s .gate)
+      → (l : Letters) → l ≡ letters plan → a ≡ wholeAnswer T x logged (S .bound) l s n → n ≤ m → a ≡ answer S x logged (runOf S x logged plan) cut
   unfolding wholeAnswer
-  run-whole g at l is e all-made =
+  run-whole s at why l is e all-made =
       let p = letterIn l in
-      let d = endingFor p (numberAt g) in
+      let g = s .gate in
+      let d = endingFor p (s .cause) (numberAt g) in
       let few = within cut stop in
       let all : T ≡ applyAll (runOf S x logged plan .puts) S =
       applied S holds few stored ∙ ap (λ (qs : List Put). applyAll qs S) (take-all m (runOf S x logged plan .puts) (omega (arith, count))) in
@@ -113,5 +117,5 @@ module _ (S : Store) (x : Tx) (logged : Bool) (plan : Schedule) (cut : Cut) {j :
         events = eventsBy logged (S .bound) (ltb 0 (length (finals x))) (passedAt g) d;
         stores = made i;
       })
-      ∙ sym (answered S x logged plan g at l is d refl (txFor p x (leftAt g)) refl)
+      ∙ sym (answered S x logged plan g at (s .cause) why l is d refl (txFor p x (leftAt g)) refl)
       ∙ whole-is cut stop all-made

@@ -17,6 +17,7 @@ use steps::answers::events_of;
 use steps::answers::record_of;
 use steps::ends::ending_at;
 use steps::ends::tx_left;
+use steps::first::Stop;
 use steps::gate::Gate;
 use steps::gate::passed_at;
 use steps::none::no_events;
@@ -65,7 +66,7 @@ pub fn cut_answer(t: Store, n: usize) -> Answer
     }
 }
 
-// The answer of a run that ended at the gate, with all its n stores.
+// The answer of a run that ended there, with all its n stores.
 pub fn whole_answer(
     t: Store,
     x: Tx,
@@ -73,12 +74,14 @@ pub fn whole_answer(
     logged: bool,
     bound: bool,
     l: Letters,
-    g: usize,
+    stop: Stop,
     n: usize,
 ) -> Answer
-    ensures { λ r. ⌜ (finals ≡ finalsLaid x → r ≡ wholeAnswer t x logged bound l g n) ⌝ }
+    ensures { λ r. ⌜ (finals ≡ finalsLaid x → r ≡ wholeAnswer t x logged bound l stop n) ⌝ }
 {
-    let end = ending_at(g, l);
+    let g = stop.gate;
+    let cause = stop.cause;
+    let end = ending_at(g, cause, l);
     let y = tx_left(g, l, x);
     let record = record_of(Gate::CLEAN <= g, x, finals);
     let passed = passed_at(g);

@@ -39,7 +39,7 @@ pub fn run(
     let at = finals.at;
     let p = plan_of(&s.key, &s.has, &s.xmin, seen, x, at, finals.count);
     let q = planning::struck_of(l, s.poisoned);
-    let g = first_gate(
+    let stop = first_gate(
         l,
         logged,
         0 < finals.count,
@@ -53,15 +53,14 @@ pub fn run(
         &s.xmin,
         &s.xmax,
         x,
-        finals,
     );
     let mut j = [0; Journal::WORDS];
-    let n = push_run(p, q, g, &mut j, 0);
+    let n = push_run(p, q, stop.gate, &mut j, 0);
     let m = answers::stop_at(cut, n);
     let bound = s.bound;
     let t = journal::apply(s, &j, m);
     if m < n {
         return answers::cut_answer(t, m);
     }
-    answers::whole_answer(t, x, finals, logged, bound, l, g, n)
+    answers::whole_answer(t, x, finals, logged, bound, l, stop, n)
 }

@@ -3,11 +3,11 @@
 ghost use mathlib.Core.Path.{_≡_};
 ghost use lib.ListN.{take};
 ghost use Rattle.rules.specs.Types.{Store};
-ghost use Rattle.rules.specs.Lists.{any};
-ghost use Rattle.rules.specs.Tests.{indexReadConflict, rowLockConflict, serializationConflict};
+ghost use Rattle.rules.specs.Tests.{indexReadConflict, rowLockConflict, serializationConflict, writeBaseConflict};
+ghost use Rattle.rules.specs.Tests.{indexReadPlace, rowLockPlace, serializationPlace, writeBasePlace};
 ghost use Rattle.fields.specs.Lent.{atRows, atPlaces, flagsAtPlaces, atActive, atStripes};
-ghost use Rattle.commit_tests.specs.Conflicts.{readConflictOf, baseMoved};
-use super::finals::Finals;
+ghost use Rattle.commit_tests.specs.Conflicts.{tested, readConflictOf};
+use super::finals::unwritten_from;
 use fields::lent::clipped;
 use fields::lent::head_of;
 use fields::lent::stamp_at;
@@ -21,12 +21,21 @@ use records::Store;
 use records::Tx;
 use records::Txid;
 
-// 11: index_conflict is set or a recorded stamp differs.
-pub fn index_read_conflict(stamps: &[u64; Store::STRIPES], x: Tx) -> bool
-    ensures { λ r. ⌜ ((S : Store) → S .stamps ≡ atStripes (now (stamps .entry)) → r ≡ indexReadConflict S x) ⌝ }
+// What a test answers: whether an entry conflicts, and the place of the first that does, or the number of entries if none does.
+pub struct Tested {
+    pub yes: bool,
+    pub place: usize,
+}
+
+// 11: index_conflict, its entry 0, is set, or a recorded stamp differs.
+pub fn index_read_conflict(stamps: &[u64; Store::STRIPES], x: Tx) -> Tested
+    ensures { λ r. ⌜ ((S : Store) → S .stamps ≡ atStripes (now (stamps .entry)) → r ≡ tested (indexReadConflict S x) (indexReadPlace S x)) ⌝ }
 {
     if x.index_conflict {
-        return true;
+        return Tested {
+            yes: true,
+            place: 0,
+        };
     }
     let n = clipped(x.index_read_count, Tx::INDEX_READS);
     let mut i: usize = 0;
@@ -34,11 +43,17 @@ pub fn index_read_conflict(stamps: &[u64; Store::STRIPES], x: Tx) -> bool
         let e = x.index_reads[i];
         let now = stamp_at(stamps, e.stripe);
         if now.0 != e.stamp.0 {
-            return true;
+            return Tested {
+                yes: true,
+                place: i + 1,
+            };
         }
         i += 1;
     }
-    false
+    Tested {
+        yes: false,
+        place: i + 1,
+    }
 }
 
 // 12: a written row's head has a live lock of another.
@@ -48,9 +63,10 @@ pub fn has_row_lock_conflict<'a>(
     owner: &'a [u64; SlotPtr::PLACES],
     active: &'a [u64; Txid::ACTIVE],
     x: Tx,
-) -> bool
+) -> Tested
     ensures { λ r. ⌜ ((S : Store) → S .heads ≡ atRows (now (heads .entry)) → S .locked ≡ flagsAtPlaces (now (locked .entry))
-        → S .owner ≡ atPlaces (now (owner .entry)) → S .active ≡ atActive (now (active .entry)) → r ≡ rowLockConflict S x) ⌝ }
+        → S .owner ≡ atPlaces (now (owner .entry)) → S .active ≡ atActive (now (active .entry))
+        → r ≡ tested (rowLockConflict S x) (rowLockPlace S x)) ⌝ }
 {
     let n = clipped(x.write_count, Tx::WRITES);
     let mut i: usize = 0;
@@ -58,11 +74,17 @@ pub fn has_row_lock_conflict<'a>(
         let w = x.writes[i];
         let head = head_of(heads, w.row);
         if locked_by_another(locked, owner, active, x.txid, head) {
-            return true;
+            return Tested {
+                yes: true,
+                place: i,
+            };
         }
         i += 1;
     }
-    false
+    Tested {
+        yes: false,
+        place: i,
+    }
 }
 
 // One read. Of an absent row: it has a head now. Of a version: a changed xmin conflicts first; xmax 0 or own is none; xmax at or above snapshot_xmax,
@@ -107,9 +129,9 @@ pub fn has_serialization_conflict<'a>(
     xmin: &'a [u64; SlotPtr::PLACES],
     xmax: &'a [u64; SlotPtr::PLACES],
     x: Tx,
-) -> bool
+) -> Tested
     ensures { λ r. ⌜ ((S : Store) → S .heads ≡ atRows (now (heads .entry)) → S .xmin ≡ atPlaces (now (xmin .entry))
-        → S .xmax ≡ atPlaces (now (xmax .entry)) → r ≡ serializationConflict S x) ⌝ }
+        → S .xmax ≡ atPlaces (now (xmax .entry)) → r ≡ tested (serializationConflict S x) (serializationPlace S x)) ⌝ }
 {
     let n = clipped(x.read_count, Tx::READS);
     let mut i: usize = 0;
@@ -125,26 +147,41 @@ pub fn has_serialization_conflict<'a>(
             x.snapshot_xmax,
             e,
         ) {
-            return true;
+            return Tested {
+                yes: true,
+                place: i,
+            };
         }
         i += 1;
     }
-    false
+    Tested {
+        yes: false,
+        place: i,
+    }
 }
 
-// 14: a final write's base is not the head.
-pub fn has_write_base_conflict(heads: &[u32; RowId::ROWS], finals: Finals) -> bool
-    ensures { λ r. ⌜ r ≡ any (baseMoved (atRows (now (heads .entry)))) (take (finals .count) (finals .at)) ⌝ }
+// 14: a final write's base is not the head, at its place among all writes. Whether a write is final is asked only where its base isn't the head.
+pub fn has_write_base_conflict(heads: &[u32; RowId::ROWS], x: Tx) -> Tested
+    ensures { λ r. ⌜ ((S : Store) → S .heads ≡ atRows (now (heads .entry)) → r ≡ tested (writeBaseConflict S x) (writeBasePlace S x)) ⌝ }
 {
-    let n = clipped(finals.count, Tx::WRITES);
+    let n = clipped(x.write_count, Tx::WRITES);
+    let writes = x.writes;
     let mut i: usize = 0;
     while i < n {
-        let w = finals.at[i];
+        let w = writes[i];
         let head = head_of(heads, w.row);
         if head.0 != w.base.0 {
-            return true;
+            if unwritten_from(writes, x.write_count, i + 1, w.row) {
+                return Tested {
+                    yes: true,
+                    place: i,
+                };
+            }
         }
         i += 1;
     }
-    false
+    Tested {
+        yes: false,
+        place: i,
+    }
 }

@@ -17,7 +17,12 @@ pub struct Finals {
 }
 
 // No write from a place on is of the row.
-fn unwritten_from(writes: [Write; Tx::WRITES], count: usize, from: usize, row: RowId) -> bool
+pub(crate) fn unwritten_from(
+    writes: [Write; Tx::WRITES],
+    count: usize,
+    from: usize,
+    row: RowId,
+) -> bool
     ensures { λ b. ⌜ b ≡ not (any (ofRow (row .0)) (firstFrom count writes from)) ⌝ }
 {
     let n = clipped(count, Tx::WRITES);

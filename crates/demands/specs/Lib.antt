@@ -22,3 +22,6 @@ pub mod StampsAfter
 -- the guards after each store of a commit
 pub mod GuardsInTurn
 pub mod GuardedMorning
+-- wish 4: which test refused
+pub mod Causes
+pub mod CauseMornings

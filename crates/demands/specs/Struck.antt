@@ -4,10 +4,11 @@ use mathlib.Core.Bool.{true, false}
 use mathlib.Core.List.{List, [], _∷_, _++_, map}
 use Prim.Native.Nat.{ℕ}
 use Rattle.rules.specs.Lists.{flat, inOrder}
-use Rattle.rules.specs.Types.{Value, Key, Uncut, After}
+use Rattle.rules.specs.Types.{Value, Key, Uncut, After, Cause, BusyGuard, IndexReadAt, RowLockAt, SerializationAt, WriteBaseAt}
 use Rattle.records.specs.Zero.{emptyStore}
 use Rattle.rules.specs.Transaction.{withReads}
 use Rattle.rules.specs.Faults.{F, B, P, X, Q}
+use Rattle.rules.specs.Numbers.{cause}
 use Rattle.rules.specs.Replay.{Line, lineB, lineR, lineW, lineL, lineK, lineC, lineF, lineV, num, dash, Out, says, Desk, deskOf, start, txAt, laid, replayFrom}
 use Rattle.rules.specs.Computing.{computing}
 use Rattle.mornings.specs.Mornings.{morning, written, done}
@@ -30,6 +31,10 @@ unlogged n stores = on (lineC 0 false Uncut) n stores
 
 abbrev pub logged : ℕ → ℕ → Said
 logged n stores = on (lineC 0 true Uncut) n stores
+
+-- place 0 commits, unlogged, and is answered 7 with this cause
+abbrev pub stopped : Cause → ℕ → Said
+stopped c stores = record { line = lineC 0 false Uncut; out = record { number = 7; third = num stores; more = cause c } }
 
 abbrev pub cutAt : ℕ → ℕ → ℕ → Said
 cutAt k n stores = on (lineC 0 false (After k)) n stores
@@ -111,13 +116,13 @@ histories =
     ∷ after again (fault 6 P 0 ∷ logged 6 2 ∷ finds 3 35)
     ∷ after again (fault 6 P 0 ∷ fault 23 F 0 ∷ logged 6 1 ∷ poisoned ++ finds 3 35)
     -- 7: busy; a base that is not the head, also where the abort fails; another's lock; a row and a stripe looked up; a changed xmin
-    ∷ after again (fault 7 B 0 ∷ unlogged 7 2 ∷ finds 3 35)
-    ∷ after beaten (unlogged 7 6 ∷ finds 4 52)
-    ∷ after beaten (fault 23 F 0 ∷ unlogged 7 5 ∷ poisoned ++ finds 4 52)
-    ∷ after lockedOut (unlogged 7 6 ∷ finds 4 35)
-    ∷ after (lookedUp 3 (Key 35)) (unlogged 7 5 ∷ [])
-    ∷ after (lookedUp 4 (Key 35)) (unlogged 7 5 ∷ [])
-    ∷ record { from = reused; told = unlogged 7 3 ∷ [] }
+    ∷ after again (fault 7 B 0 ∷ stopped BusyGuard 2 ∷ finds 3 35)
+    ∷ after beaten (stopped (WriteBaseAt 0) 6 ∷ finds 4 52)
+    ∷ after beaten (fault 23 F 0 ∷ stopped (WriteBaseAt 0) 5 ∷ poisoned ++ finds 4 52)
+    ∷ after lockedOut (stopped (RowLockAt 0) 6 ∷ finds 4 35)
+    ∷ after (lookedUp 3 (Key 35)) (stopped (SerializationAt 0) 5 ∷ [])
+    ∷ after (lookedUp 4 (Key 35)) (stopped (IndexReadAt 1) 5 ∷ [])
+    ∷ record { from = reused; told = stopped (SerializationAt 0) 3 ∷ [] }
     -- 8: durably bound, unless logged
     ∷ record { from = bound; told = unlogged 8 4 ∷ logged 0 8 ∷ finds 2 35 }
     -- 9: aborted, the store as good as before; where the abort fails it becomes 19

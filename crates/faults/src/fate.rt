@@ -12,7 +12,7 @@ pub fn fate_in(why: Refusal) -> Fate {
         Refusal::StepFailed(f) => f,
         Refusal::PrepareFailed(f) => f,
         Refusal::PreparePanicked(f) => f,
-        Refusal::Conflict(f) => f,
+        Refusal::Conflict(_, f) => f,
         Refusal::BoundDurably(f) => f,
         Refusal::FoundPoisoned(f) => f,
         Refusal::InsertFailed(f) => f,

@@ -62,20 +62,20 @@ module _ (S : Store) (x : Tx) (logged : Bool) (plan : Schedule) (z : Sized S) wh
       die S x logged plan r _ PrepareFailed CleanupFailed false true 5 neither (λ _.
       die S x logged plan r _ PreparePanicked PreparePanicked false true 5 neither (λ _.
       stay S x logged plan r _ StepFailed 6 neither (λ _.
-      die S x logged plan r _ Conflict Conflict false false 6 neither (λ _.
+      die S x logged plan r _ (Conflict _) (Conflict _) false false 6 neither (λ _.
       stay S x logged plan r _ StepFailed 7 index (λ _.
-      die S x logged plan r _ Conflict Conflict false false 7 index (λ _.
+      die S x logged plan r _ (Conflict _) (Conflict _) false false 7 index (λ _.
       stay S x logged plan r _ StepFailed 8 both (λ _.
       stay S x logged plan r _ BoundDurably 8 both (λ free.
       die S x logged plan r _ FoundPoisoned CleanupFailed (not (fails S x logged plan 10)) false 9 both (λ sound.
       stay S x logged plan r _ StepFailed 10 both (λ _.
-      die S x logged plan r _ Conflict Conflict false false 10 both (λ t11.
+      die S x logged plan r _ (Conflict _) (Conflict _) false false 10 both (λ t11.
       stay S x logged plan r _ StepFailed 11 both (λ _.
-      die S x logged plan r _ Conflict Conflict false false 11 both (λ t12.
+      die S x logged plan r _ (Conflict _) (Conflict _) false false 11 both (λ t12.
       stay S x logged plan r _ StepFailed 12 both (λ _.
-      die S x logged plan r _ Conflict Conflict false false 12 both (λ t13.
+      die S x logged plan r _ (Conflict _) (Conflict _) false false 12 both (λ t13.
       stay S x logged plan r _ StepFailed 13 both (λ _.
-      die S x logged plan r _ Conflict Conflict false false 13 both (λ t14.
+      die S x logged plan r _ (Conflict _) (Conflict _) false false 13 both (λ t14.
       from-15 ok (record { allowed = free; healthy = or-false (fails S x logged plan 10) (S .poisoned) sound .1; agreed = rw (t11, t12, t13, t14) })
       ))))))))))))))))))))
 

@@ -277,8 +277,18 @@ pub enum Fate {
     Standing,
 }
 
-// Each refusal carries its fate inside it. `Done`, number 0, is none; the crate `rules` gives the others their numbers, 1 to 28 in this order,
-// and 31 to the last.
+// What a conflict met: a busy guard, or the first entry that conflicts of the test that said yes, by its place. Test 11's place 0 is index_conflict,
+// and the index reads follow from 1; 12 and 14 count in the write list, 13 in the read list, from 0.
+pub enum Cause {
+    BusyGuard,
+    IndexReadAt(usize),
+    RowLockAt(usize),
+    SerializationAt(usize),
+    WriteBaseAt(usize),
+}
+
+// Each refusal carries its fate inside it, and a conflict its cause too. `Done`, number 0, is none; the crate `rules` gives the others their numbers,
+// 1 to 28 in this order, and 31 to the last.
 pub enum Refusal {
     Done,
     NotResting(Fate),
@@ -287,7 +297,7 @@ pub enum Refusal {
     StepFailed(Fate),
     PrepareFailed(Fate),
     PreparePanicked(Fate),
-    Conflict(Fate),
+    Conflict(Cause, Fate),
     BoundDurably(Fate),
     FoundPoisoned(Fate),
     InsertFailed(Fate),

@@ -7,13 +7,12 @@ use mathlib.Core.Logic.{_⊎_, inl, inr, ⊎-elim}
 use Prim.Native.Nat.{ℕ, _<_}
 use native.Mathlib.Omega.{arith}
 use lib.ListN.{take}
-use lib.Dec.{eqb}
 use Rattle.rules.specs.Lists.{memb}
 use Rattle.rules.specs.Types.{Store, Tx, Schedule, Value, Fate, Open, Undone, Refusal, CallbackFailed, CallbackPanicked, CleanupFailed}
 use Rattle.rules.specs.Store.{activeTxids}
 use Rattle.rules.specs.Transaction.{finals}
 use Rattle.rules.specs.Admitted.{finished}
-use Rattle.rules.specs.Numbers.{numberOf, fate}
+use Rattle.rules.specs.Numbers.{fate}
 use Rattle.rules.specs.Puts.{Put, putFree, putDrop, putPoison, putDoom, apply, ownSlots, abortPuts}
 use Rattle.rules.specs.Tests.{writeBaseConflict}
 use Rattle.run_laws.specs.FourTests.{bases-agree}
@@ -266,10 +265,10 @@ module _ (S : Store) (x : Tx) (logged : Bool) (plan : Schedule) where
     abort-number (unprepared k) false e = refl
     abort-number (panicked k) true e = refl
     abort-number (panicked k) false e = refl
-    abort-number (busy k) true e = refl
-    abort-number (busy k) false e = refl
-    abort-number (conflict k) true e = refl
-    abort-number (conflict k) false e = refl
+    abort-number (busy b k) true e = refl
+    abort-number (busy b k) false e = refl
+    abort-number (conflict b k) true e = refl
+    abort-number (conflict b k) false e = refl
     abort-number (unhealthy k) true e = refl
     abort-number (unhealthy k) false e = refl
 

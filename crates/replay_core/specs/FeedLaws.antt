@@ -10,9 +10,9 @@ use lib.Seq.{take-suc, length-take-le}
 use borrow.Author.Tests.{eq-eqb, ne-eqb, eqb-true, eqb-false, le-leb, lt-leb}
 use Rattle.basic_laws.specs.Cases.{by}
 use Rattle.rules.specs.Types.{Tx}
-use Rattle.rules.specs.Replay.{Line, Desk, says, txAt, turn}
+use Rattle.rules.specs.Replay.{Line, Desk, txAt, turn}
 use Rattle.rules.specs.Script.{Bytes, split, lineOf, write}
-use Rattle.script.specs.Print.{thirdOf}
+use Rattle.script.specs.Print.{thirdOf, moreOf, tells}
 use Rattle.replay_core.specs.declared.turn.Turned.{Turned}
 use Rattle.replay_core.specs.declared.feed.Fed.{Fed}
 use Rattle.replay_core.specs.Turn.{placeIn, atFirst, single, turned, joined, turn-alone}
@@ -51,7 +51,7 @@ module _ (d : Desk) (w : Bytes) (n : ℕ) {l : Line} {p m : ℕ} {x : Tx} (t : T
   unfolding lineEnd
   end-state z = λ i. record { desk = the-turn i .desk; held = z i; lines = next i }
 
-  pub end-puts : {out after : Bytes} {k r : ℕ} → Puts out k (write m (says (t .number) (thirdOf (t .third)) ∷ [])) after r
+  pub end-puts : {out after : Bytes} {k r : ℕ} → Puts out k (write m (tells (t .number) (thirdOf (t .third)) (moreOf (t .more)) ∷ [])) after r
       → Puts out k (lineEnd (record { desk = d; held = w; lines = n }) .answers) after r
   unfolding lineEnd
   end-puts {out} {after} {k} {r} put = subst (λ (text : Bytes). Puts out k text after r) (λ i. write (next i) (the-turn i .out ∷ [])) put
@@ -120,7 +120,7 @@ module _ (s : Reading) (part : Bytes) (i : ℕ) (h : i < length part) (d : Desk)
     (g : Goes s part out after i n (record { desk = d; held = w; lines = k })) (long : length after ≡ length out) (room : n + answerRoom ≤ length after) where
   pub on-feed : {l : Line} {p m r : ℕ} (t : Turned) {none last : Bytes} → getD part i 0 ≡ 10
       → l ≡ lineOf (split 9 w) → p ≡ placeIn l → {x : Tx} → x ≡ txAt d p → turned t ≡ turn (atFirst l) (single (d .store) x (d .plan)) → m ≡ nextLine k
-      → Puts after n (write m (says (t .number) (thirdOf (t .third)) ∷ [])) last r → none ≡ []
+      → Puts after n (write m (tells (t .number) (thirdOf (t .third)) (moreOf (t .more)) ∷ [])) last r → none ≡ []
       → Goes s part out last (i + 1) r (record { desk = record { store = t .store; txs = set (d .txs) p (t .tx); plan = t .plan }; held = none; lines = m })
   on-feed t b e q a f next put z = goes-line s part i h out g long room b (end-state d w k t e q a f next z) (end-puts d w k t e q a f next put)
 

@@ -5,12 +5,14 @@ use Prim.Native.Nat.{ℕ}
 use borrow.Author.Tests.{eq-eqb, ne-eqb}
 use Rattle.records.specs.Zero.{noFaults}
 use Rattle.rules.specs.Types.{Store, Tx, Schedule, Fault, Value, Cut, Reply, Seen, Written, Found, Mended, Answer}
-use Rattle.rules.specs.Numbers.{numberOf}
+use Rattle.rules.specs.Numbers.{numberOf, More, moreIn}
 use Rattle.rules.specs.Calls.{begin, read, write, lookup, rowLock, abort}
 use Rattle.rules.specs.Recovery.{recover}
 use Rattle.rules.specs.Answer.{commit}
-use Rattle.rules.specs.Replay.{lineB, lineR, lineW, lineL, lineK, lineA, lineC, lineF, lineV, lineBad, Third, num, valueThird, withFault, turn}
-use Rattle.replay_core.specs.Turn.{single, left}
+use Rattle.rules.specs.Replay.{lineB, lineR, lineW, lineL, lineK, lineA, lineC, lineF, lineV, lineBad, Third, num, valueThird}
+use Rattle.rules.specs.Replay.{withFault, saysOfCommit, turn}
+use Rattle.script.specs.Print.{tells}
+use Rattle.replay_core.specs.Turn.{single, leaves, left}
 
 module _ (S : Store) (x : Tx) (plan : Schedule) {n : ℕ} where
   module _ {a : Reply} (e : a ≡ begin S) (m : n ≡ numberOf (a .refusal)) where
@@ -60,10 +62,13 @@ module _ (S : Store) (x : Tx) (plan : Schedule) where
   unfolding turn
   aborted e = λ i. left (e i .store) (e i .tx) plan (numberOf (e i .refusal)) (num 0)
 
-  pub committed : (logged : Bool) (cut : Cut) {a : Answer} {none : Schedule} → a ≡ commit S x logged plan cut → none ≡ noFaults
-      → left (a .store) (a .tx) none (numberOf (a .refusal)) (num (a .stores)) ≡ turn (lineC 0 logged cut) (single S x plan)
+  pub committed : (logged : Bool) (cut : Cut) {a : Answer} {none : Schedule} {n : ℕ} {m : More} → a ≡ commit S x logged plan cut
+      → n ≡ numberOf (a .refusal) → m ≡ moreIn (a .refusal) → none ≡ noFaults
+      → leaves (a .store) (a .tx) none (tells n (num (a .stores)) m) ≡ turn (lineC 0 logged cut) (single S x plan)
   unfolding turn
-  committed logged cut e z = λ i. left (e i .store) (e i .tx) (z i) (numberOf (e i .refusal)) (num (e i .stores))
+  committed logged cut {a} e number more z =
+      (λ i. leaves (a .store) (a .tx) (z i) (tells (number i) (num (a .stores)) (more i)))
+      ∙ (λ i. leaves (e i .store) (e i .tx) noFaults (saysOfCommit (e i .refusal) (e i .stores)))
 
   pub recovered : {a : Mended} → a ≡ recover S → left (a .store) x plan (numberOf (a .refusal)) (num 0) ≡ turn lineV (single S x plan)
   unfolding turn

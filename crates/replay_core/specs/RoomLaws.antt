@@ -10,8 +10,10 @@ use lib.Seq.{drop-cons}
 use borrow.Author.Tests.{eq-eqb, ne-eqb, le-leb, lt-leb, ltb-true, ltb-false}
 use Rattle.records.specs.Limits.{digits64}
 use Rattle.basic_laws.specs.Cases.{by}
+use Rattle.rules.specs.Numbers.{More, nothing, cause, testNamed, placeNamed}
 use Rattle.rules.specs.Replay.{Third, num, dash, Out, turn}
-use Rattle.rules.specs.Script.{Bytes, onFirst, split, lineOf, linesIn, decimal, third, write, replayText}
+use Rattle.rules.specs.Script.{Bytes, onFirst, split, lineOf, linesIn, decimal, third, more, write, replayText}
+use Rattle.script.specs.Print.{causeRoom}
 use Rattle.script.specs.PrintLaws.{digit-last, digit-more}
 use Rattle.replay_core.specs.Feed.{Reading, answerRoom, nextLine, lineEnd, fedByte, fed, ended, first}
 use Rattle.replay_core.specs.InParts.{in-parts}
@@ -29,12 +31,25 @@ third-short : (t : Third) (rest : Bytes) → length (third t rest) ≤ digits64 
 third-short (num n) rest = digits-short digits64 n rest
 third-short dash rest = omega arith
 
+more-short : (m : More) (rest : Bytes) → length (more m rest) ≤ causeRoom + length rest
+more-short nothing rest = omega arith
+more-short (cause c) rest =
+    let place = decimal digits64 (placeNamed c) rest in
+    omega (arith, digits-short digits64 (placeNamed c) rest, digits-short digits64 (testNamed c) (9 ∷ place))
+
 pub answer-short : (n : ℕ) (o : Out) → length (write n (o ∷ [])) ≤ answerRoom
 answer-short n o =
-    let end : Bytes = 10 ∷ [] in
+    let feed : Bytes = 10 ∷ [] in
+    let end = more (o .more) feed in
     let a = third (o .third) end in
     let b = decimal digits64 (o .number) (9 ∷ a) in
-    omega (arith, third-short (o .third) end, digits-short digits64 (o .number) (9 ∷ a), digits-short digits64 n (9 ∷ b))
+    omega (
+      arith,
+      more-short (o .more) feed,
+      third-short (o .third) end,
+      digits-short digits64 (o .number) (9 ∷ a),
+      digits-short digits64 n (9 ∷ b),
+    )
 
 line-short : (s : Reading) → length (lineEnd s .answers) ≤ answerRoom
 unfolding lineEnd

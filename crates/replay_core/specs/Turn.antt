@@ -14,9 +14,9 @@ use Rattle.rules.specs.Numbers.{numberOf, isDone}
 use Rattle.rules.specs.Calls.{begin}
 use Rattle.rules.specs.Recovery.{recover}
 use Rattle.rules.specs.Replay.{Line, lineB, lineR, lineW, lineL, lineK, lineA, lineC, lineF, lineV}
-use Rattle.rules.specs.Replay.{lineBad, Third, num, Desk, Turn, says, txAt, withFault, turn}
+use Rattle.rules.specs.Replay.{lineBad, Third, num, Out, Desk, Turn, says, txAt, withFault, turn}
 use Rattle.rules.specs.Script.{Bytes, split, lineOf}
-use Rattle.script.specs.Print.{thirdOf}
+use Rattle.script.specs.Print.{thirdOf, moreOf, tells}
 use Rattle.statements.specs.ReplayWords.{IsForm}
 use Rattle.sentences.specs.ScriptSays.{line-says}
 use Rattle.replay_core.specs.declared.turn.Turned.{Turned}
@@ -52,12 +52,16 @@ abbrev pub single : Store → Tx → Schedule → Desk
 single S x plan = record { store = S; txs = x ∷ []; plan = plan }
 
 -- what a line leaves and answers at the only place
+abbrev pub leaves : Store → Tx → Schedule → Out → Turn
+leaves S x plan o = record { desk = single S x plan; out = o }
+
+-- the same for a line that answers no cause
 abbrev pub left : Store → Tx → Schedule → ℕ → Third → Turn
-left S x plan n t = record { desk = single S x plan; out = says n t }
+left S x plan n t = leaves S x plan (says n t)
 
 -- what the code's answer means
 abbrev pub turned : Turned → Turn
-turned r = left (r .store) (r .tx) (r .plan) (r .number) (thirdOf (r .third))
+turned r = leaves (r .store) (r .tx) (r .plan) (tells (r .number) (thirdOf (r .third)) (moreOf (r .more)))
 
 -- a desk of which one place went through a turn
 abbrev pub joined : Desk → ℕ → Turn → Turn

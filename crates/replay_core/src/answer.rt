@@ -3,11 +3,11 @@
 ghost use mathlib.Core.List.{[], _∷_};
 ghost use Prim.Native.Nat.{_+_, _≤_};
 ghost use lib.ListN.{length, drop};
-ghost use Rattle.rules.specs.Replay.{says};
 ghost use Rattle.rules.specs.Script.{write};
-ghost use Rattle.script.specs.Print.{thirdOf};
+ghost use Rattle.script.specs.Print.{thirdOf, moreOf, tells};
 ghost use Rattle.replay_core.specs.Feed.{answerRoom};
 ghost use Rattle.replay_core.specs.Put.{Puts};
+use script::print::More;
 use script::print::Text;
 use script::print::Third;
 use script::print::print_line;
@@ -28,10 +28,17 @@ fn put_text(out: &mut [u8], n: usize, text: Text) -> usize
 }
 
 // An answer line behind the first n bytes.
-pub(crate) fn put_answer(out: &mut [u8], n: usize, line: u64, number: u64, t: Third) -> usize
+pub(crate) fn put_answer(
+    out: &mut [u8],
+    n: usize,
+    line: u64,
+    number: u64,
+    t: Third,
+    m: More,
+) -> usize
     requires { ⌜ n + answerRoom ≤ length (now out) ⌝ }
-    ensures { λ r. ⌜ Puts (now (out .entry)) n (write line (says number (thirdOf t) ∷ [])) (now (out .exit)) r ⌝ }
+    ensures { λ r. ⌜ Puts (now (out .entry)) n (write line (tells number (thirdOf t) (moreOf m) ∷ [])) (now (out .exit)) r ⌝ }
 {
-    let text = print_line(line, number, t);
+    let text = print_line(line, number, t, m);
     put_text(out, n, text)
 }

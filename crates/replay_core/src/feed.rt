@@ -74,7 +74,8 @@ pub fn feed(r: Replay, part: &[u8], out: &mut [u8]) -> Fed
             plan = t.plan;
             lines = std::num::wrapping_add_u64(lines, 1);
             let third = t.third;
-            n = put_answer(out, n, lines, t.number, third);
+            let more = t.more;
+            n = put_answer(out, n, lines, t.number, third, more);
             held = Held::none();
         } else {
             held = with_byte(held, b);
@@ -108,5 +109,6 @@ pub fn finish(r: Replay, out: &mut [u8]) -> usize
     let t = turn(r.store, r.txs[p], r.plan, line);
     let lines = std::num::wrapping_add_u64(r.lines, 1);
     let third = t.third;
-    put_answer(out, 0, lines, t.number, third)
+    let more = t.more;
+    put_answer(out, 0, lines, t.number, third, more)
 }

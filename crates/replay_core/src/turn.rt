@@ -11,15 +11,17 @@ use records::Schedule;
 use records::Store;
 use records::Tx;
 use script::Line;
+use script::print::More;
 use script::print::Third;
 
-// What a line leaves, and what it answers: the number, and the third field.
+// What a line leaves, and what it answers: the number, the third field, and what follows it.
 pub struct Turned {
     pub store: Store,
     pub tx: Tx,
     pub plan: Schedule,
     pub number: u64,
     pub third: Third,
+    pub more: More,
 }
 
 // The place that a line names; a line that names none leaves the first one's transaction as it was.

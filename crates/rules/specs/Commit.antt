@@ -6,6 +6,7 @@ use lib.ListN.{length, take}
 use lib.Dec.{eqb, ltb}
 use Rattle.rules.specs.Types.{Store, Tx, Schedule, Fate, Open, Undone, Standing}
 use Rattle.rules.specs.Types.{Refusal, Done, StepFailed, PrepareFailed, PreparePanicked, Conflict, BoundDurably, FoundPoisoned, InsertFailed}
+use Rattle.rules.specs.Types.{Cause, BusyGuard, IndexReadAt, RowLockAt, SerializationAt, WriteBaseAt}
 use Rattle.rules.specs.Types.{CallbackFailed, CallbackPanicked, RemoveFailed, PublishFailed, RecycleFailed, FinishFailed, StampFailed, CleanupFailed}
 use Rattle.records.specs.Zero.{onlyTxid}
 use Rattle.rules.specs.Transaction.{finals, noWrites, noAccesses, emptied}
@@ -13,6 +14,7 @@ use Rattle.rules.specs.Faults.{F, B, P, X, Q, faultsOf, faultAt}
 use Rattle.rules.specs.Numbers.{fate}
 use Rattle.rules.specs.Puts.{Put, putRemove, putDrop, putPoison, putDoom, abortPuts}
 use Rattle.rules.specs.Tests.{indexReadConflict, rowLockConflict, serializationConflict, writeBaseConflict}
+use Rattle.rules.specs.Tests.{indexReadPlace, rowLockPlace, serializationPlace, writeBasePlace}
 use Rattle.rules.specs.Changes.{changes, destinations, indexGuards, partitionGuards, release, insertions, removals, publication, recycling, stamping}
 
 -- how a run ends: its answer, the transaction left, and the four events that don't follow from the steps passed
@@ -91,6 +93,10 @@ module _ (S : Store) (x : Tx) (logged : Bool) (plan : Schedule) where
         dropped = false;
       })
 
+  -- 7: it names its cause, whether its abort fails or not
+  abbrev pub conflicts : List Put → Cause → Step
+  conflicts back cause = aborts back (Conflict cause) (Conflict cause) false false
+
   -- 1 open was tried as number 3; 2 has no fault
   abbrev pub ensureOpen : Step
   ensureOpen = goes []
@@ -115,11 +121,11 @@ module _ (S : Store) (x : Tx) (logged : Bool) (plan : Schedule) where
   -- "Faults at 7 and 8 strike before any guard is taken"
   unfoldable pub acquireIndexLocks : Step
   acquireIndexLocks = stopIf (fails 7) (stays [] StepFailed)
-      (stopIf (strikes 7 B) (aborts [] Conflict Conflict false false) (goes (indexGuards S x me)))
+      (stopIf (strikes 7 B) (conflicts [] BusyGuard) (goes (indexGuards S x me)))
 
   unfoldable pub acquirePartitionLocks : Step
   acquirePartitionLocks = stopIf (fails 8) (stays (indexGuards S x 0) StepFailed)
-      (stopIf (strikes 8 B) (aborts (indexGuards S x 0) Conflict Conflict false false) (goes (partitionGuards x me)))
+      (stopIf (strikes 8 B) (conflicts (indexGuards S x 0) BusyGuard) (goes (partitionGuards x me)))
 
   -- "unlogged with writes only"
   abbrev pub unloggedWrites : Bool
@@ -134,8 +140,8 @@ module _ (S : Store) (x : Tx) (logged : Bool) (plan : Schedule) where
   checkNotPoisoned = stopIf (fails 10 || S .poisoned) (aborts (release S x) FoundPoisoned CleanupFailed (not (fails 10)) false) (goes [])
 
   -- 11 to 14: "any fault strikes before its step's own test"
-  abbrev pub test : ℕ → Bool → Step
-  test n conflict = stopIf (fails n) (stays (release S x) StepFailed) (stopIf conflict (aborts (release S x) Conflict Conflict false false) (goes []))
+  abbrev pub test : ℕ → Bool → Cause → Step
+  test n conflict cause = stopIf (fails n) (stays (release S x) StepFailed) (stopIf conflict (conflicts (release S x) cause) (goes []))
 
   -- from here on a failed step has made k of its stores: "after k stores clipped to the step's number"
   unfoldable pub prepareIndexDestinations : Step
@@ -216,10 +222,10 @@ module _ (S : Store) (x : Tx) (logged : Bool) (plan : Schedule) where
       ∷ acquirePartitionLocks
       ∷ ensureUnloggedWriteAllowed
       ∷ checkNotPoisoned
-      ∷ test 11 (indexReadConflict S x)
-      ∷ test 12 (rowLockConflict S x)
-      ∷ test 13 (serializationConflict S x)
-      ∷ test 14 (writeBaseConflict S x)
+      ∷ test 11 (indexReadConflict S x) (IndexReadAt (indexReadPlace S x))
+      ∷ test 12 (rowLockConflict S x) (RowLockAt (rowLockPlace S x))
+      ∷ test 13 (serializationConflict S x) (SerializationAt (serializationPlace S x))
+      ∷ test 14 (writeBaseConflict S x) (WriteBaseAt (writeBasePlace S x))
       ∷ prepareIndexDestinations
       ∷ invokeBeforePublish
       ∷ removeIndexSources

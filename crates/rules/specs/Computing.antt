@@ -14,6 +14,7 @@ use Rattle.rules.specs.Calls.{baseOf, write, candidates, matching, looku
 use Rattle.rules.specs.Recovery.{recovered, recover}
 use Rattle.rules.specs.Faults.{table, masks, allowed, scheduleFit}
 use Rattle.rules.specs.Tests.{indexReadConflict, rowLockConflict, readConflict, serializationConflict, writeBaseConflict}
+use Rattle.rules.specs.Tests.{indexReadPlace, rowLockPlace, serializationPlace, writeBasePlace}
 use Rattle.rules.specs.Changes.{indexChanges, changes, destinations, sources, changedStripes, guardedStripes, guardedPartitions, indexGuards}
 use Rattle.rules.specs.Changes.{partitionGuards, release, publishOne, insertions, removals, publication, recycled, recycling, stamping}
 use Rattle.rules.specs.Commit.{stopIf, strikes, count, abortOrPoison, rollback, indexChangesMade, indexLockKeys, prepareCommitRecord}
@@ -26,12 +27,13 @@ use Rattle.rules.specs.Script.{parse, replayText}
 
 unfoldable pub computing : ℕ
 unfolding noMarks emptyStore fresh onlyTxid zeroTx noFaults every slotsInForm postingsOf postingsInForm activeInForm sees finals chainFrom
-    walkRow walkRows walk finished repairable resting countsFit fit ownSlots abortPuts admits begun begin visibleVersion readPtr recordRead
-    read lowestFree baseOf write candidates matching lookup lockedByAnother rowLock abort recovered recover table masks allowed scheduleFit
-    indexReadConflict rowLockConflict readConflict serializationConflict writeBaseConflict indexChanges changes destinations sources
-    changedStripes guardedStripes guardedPartitions indexGuards partitionGuards release publishOne insertions removals publication recycled
-    recycling stamping stopIf strikes count abortOrPoison rollback indexChangesMade indexLockKeys prepareCommitRecord runPrepare
-    acquireIndexLocks acquirePartitionLocks ensureUnloggedWriteAllowed checkNotPoisoned prepareIndexDestinations invokeBeforePublish
-    removeIndexSources publishWriteSet recycleNonFinalWrites finishTransaction publishIndexStamps steps runOf eventsOf noEvents noRecord
-    recordOf uncut cutOff commit start withFault turn replay parse replayText
+    walkRow walkRows walk finished repairable resting countsFit fit ownSlots abortPuts admits begun begin visibleVersion readPtr
+    recordRead read lowestFree baseOf write candidates matching lookup lockedByAnother rowLock abort recovered recover table masks allowed
+    scheduleFit indexReadConflict rowLockConflict readConflict serializationConflict writeBaseConflict indexReadPlace rowLockPlace
+    serializationPlace writeBasePlace indexChanges changes destinations sources changedStripes guardedStripes guardedPartitions
+    indexGuards partitionGuards release publishOne insertions removals publication recycled recycling stamping stopIf strikes count
+    abortOrPoison rollback indexChangesMade indexLockKeys prepareCommitRecord runPrepare acquireIndexLocks acquirePartitionLocks
+    ensureUnloggedWriteAllowed checkNotPoisoned prepareIndexDestinations invokeBeforePublish removeIndexSources publishWriteSet
+    recycleNonFinalWrites finishTransaction publishIndexStamps steps runOf eventsOf noEvents noRecord recordOf uncut cutOff commit start
+    withFault turn replay parse replayText
 computing = 0

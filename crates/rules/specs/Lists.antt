@@ -105,6 +105,11 @@ abbrev pub firstOf : (ℕ → Bool) → List ℕ → ℕ
 firstOf f [] = 0
 firstOf f (x ∷ l) = let r = firstOf f l in cond (f x) x r
 
+-- the place of the first test that holds; the number of tests if none does
+abbrev pub firstTrue : List Bool → ℕ
+firstTrue [] = 0
+firstTrue (b ∷ bs) = let r = firstTrue bs in cond b 0 (suc r)
+
 -- all of these tests hold; shut, so that a law can take them apart
 unfoldable pub every : List Bool → Bool
 every l = all (λ b. b) l

@@ -6,6 +6,7 @@ use lib.Dec.{eqb}
 use Rattle.rules.specs.Types.{Fate, Open, Closed, Undone, Refusal, Done, NotResting, Unfit, NotActive, StepFailed, PrepareFailed}
 use Rattle.rules.specs.Types.{PreparePanicked, Conflict, BoundDurably, FoundPoisoned, InsertFailed, CallbackFailed, CallbackPanicked}
 use Rattle.rules.specs.Types.{RemoveFailed, PublishFailed, RecycleFailed, FinishFailed, StampFailed, CutOff, CleanupFailed, NotRepairable}
+use Rattle.rules.specs.Types.{Cause, BusyGuard, IndexReadAt, RowLockAt, SerializationAt, WriteBaseAt}
 use Rattle.rules.specs.Types.{ActiveFull, ClockAtEnd, RowTooHigh, ReadsFull, WritesFull, SlotsFull, LockedByAnother, NoHead, ImpossibleMinute}
 
 abbrev pub numberOf : Refusal → ℕ
@@ -16,7 +17,7 @@ numberOf (NotActive f) = 3
 numberOf (StepFailed f) = 4
 numberOf (PrepareFailed f) = 5
 numberOf (PreparePanicked f) = 6
-numberOf (Conflict f) = 7
+numberOf (Conflict c f) = 7
 numberOf (BoundDurably f) = 8
 numberOf (FoundPoisoned f) = 9
 numberOf (InsertFailed f) = 10
@@ -49,7 +50,7 @@ fateIn (NotActive f) = f
 fateIn (StepFailed f) = f
 fateIn (PrepareFailed f) = f
 fateIn (PreparePanicked f) = f
-fateIn (Conflict f) = f
+fateIn (Conflict c f) = f
 fateIn (BoundDurably f) = f
 fateIn (FoundPoisoned f) = f
 fateIn (InsertFailed f) = f
@@ -72,6 +73,58 @@ fateIn (SlotsFull f) = f
 fateIn (LockedByAnother f) = f
 fateIn (NoHead f) = f
 fateIn (ImpossibleMinute f) = f
+
+-- document 02's wish 4: "the refusal should say busy guard, or which of tests 11 to 14 and at which place", "with 0 and 0 for a busy guard"
+abbrev pub testNamed : Cause → ℕ
+testNamed BusyGuard = 0
+testNamed (IndexReadAt p) = 11
+testNamed (RowLockAt p) = 12
+testNamed (SerializationAt p) = 13
+testNamed (WriteBaseAt p) = 14
+
+abbrev pub placeNamed : Cause → ℕ
+placeNamed BusyGuard = 0
+placeNamed (IndexReadAt p) = p
+placeNamed (RowLockAt p) = p
+placeNamed (SerializationAt p) = p
+placeNamed (WriteBaseAt p) = p
+
+-- what a refusal tells beside its number and its fate: "on 7 only"
+pub data More : Type 0 where
+  nothing : More
+  cause : Cause → More
+
+abbrev pub moreIn : Refusal → More
+moreIn Done = nothing
+moreIn (NotResting f) = nothing
+moreIn (Unfit f) = nothing
+moreIn (NotActive f) = nothing
+moreIn (StepFailed f) = nothing
+moreIn (PrepareFailed f) = nothing
+moreIn (PreparePanicked f) = nothing
+moreIn (Conflict c f) = cause c
+moreIn (BoundDurably f) = nothing
+moreIn (FoundPoisoned f) = nothing
+moreIn (InsertFailed f) = nothing
+moreIn (CallbackFailed f) = nothing
+moreIn (CallbackPanicked f) = nothing
+moreIn (RemoveFailed f) = nothing
+moreIn (PublishFailed f) = nothing
+moreIn (RecycleFailed f) = nothing
+moreIn (FinishFailed f) = nothing
+moreIn (StampFailed f) = nothing
+moreIn (CutOff f) = nothing
+moreIn (CleanupFailed f) = nothing
+moreIn (NotRepairable f) = nothing
+moreIn (ActiveFull f) = nothing
+moreIn (ClockAtEnd f) = nothing
+moreIn (RowTooHigh f) = nothing
+moreIn (ReadsFull f) = nothing
+moreIn (WritesFull f) = nothing
+moreIn (SlotsFull f) = nothing
+moreIn (LockedByAnother f) = nothing
+moreIn (NoHead f) = nothing
+moreIn (ImpossibleMinute f) = nothing
 
 -- "poisoned and undone where another call poisons, even a poisoned store; closed .. where the transaction was aborted; else open"
 abbrev pub fate : Bool → Bool → Fate

@@ -6,10 +6,10 @@ use lib.ListN.{getD, set, replicate}
 use lib.Dec.{ltb}
 use Rattle.records.specs.Limits.{placeLimit, faultLimit}
 use Rattle.rules.specs.Lists.{pad}
-use Rattle.rules.specs.Types.{Store, Tx, Fault, Schedule, Value, Absent, Key, Cut}
+use Rattle.rules.specs.Types.{Store, Tx, Fault, Schedule, Value, Absent, Key, Cut, Refusal}
 use Rattle.records.specs.Zero.{fresh, zeroTx, noFault, noFaults}
 use Rattle.rules.specs.Faults.{faultsOf}
-use Rattle.rules.specs.Numbers.{numberOf, isDone}
+use Rattle.rules.specs.Numbers.{numberOf, More, nothing, moreIn, isDone}
 use Rattle.rules.specs.Calls.{begin, read, write, lookup, rowLock, abort}
 use Rattle.rules.specs.Recovery.{recover}
 use Rattle.rules.specs.Answer.{commit}
@@ -32,9 +32,11 @@ pub data Third : Type 0 where
   num : ℕ → Third
   dash : Third
 
+-- document 02's wish 4: "the test as a fourth field and the place as a fifth, on 7 only"
 pub record Out : Type 0 where
   pub number : ℕ
   pub third : Third
+  pub more : More
 
 -- the store, the transactions of the places, the pending faults
 pub record Desk : Type 0 where
@@ -69,7 +71,10 @@ withFault f c =
     cond (ltb (c .count) faultLimit) (record { faults = pad faultLimit noFault (faultsOf c ++ f ∷ []); count = suc (c .count) }) c
 
 abbrev pub says : ℕ → Third → Out
-says n t = record { number = n; third = t }
+says n t = record { number = n; third = t; more = nothing }
+
+abbrev pub saysOfCommit : Refusal → ℕ → Out
+saysOfCommit why stores = record { number = numberOf why; third = num stores; more = moreIn why }
 
 -- "Output: .. number, then txid (B), key or - (R), slot (W), row count (L), stores (C, refused or not); 0 for any other line or refusal";
 -- "a refused B keeps its place's transaction"; "the next C, which judges it and uses it up whatever it answers"
@@ -96,7 +101,7 @@ turn (lineA i) d =
     record { desk = laid d (a .store) i (a .tx); out = says (numberOf (a .refusal)) (num 0) }
 turn (lineC i logged cut) d =
     let a = commit (d .store) (txAt d i) logged (d .plan) cut in
-    record { desk = record { store = a .store; txs = set (d .txs) i (a .tx); plan = noFaults }; out = says (numberOf (a .refusal)) (num (a .stores)) }
+    record { desk = record { store = a .store; txs = set (d .txs) i (a .tx); plan = noFaults }; out = saysOfCommit (a .refusal) (a .stores) }
 turn (lineF n c k) d =
     record { desk = record { store = d .store; txs = d .txs; plan = withFault (record { step = n; letter = c; k = k }) (d .plan) }; out = says 0 (num 0) }
 turn lineV d =

@@ -6,6 +6,7 @@ use lib.Dec.{eqb, ltb, leb}
 use Rattle.records.specs.Limits.{keyEnd, placeLimit, digits64}
 use Rattle.rules.specs.Lists.{all}
 use Rattle.rules.specs.Types.{Value, Absent, Key, Uncut, After}
+use Rattle.rules.specs.Numbers.{More, nothing, cause, testNamed, placeNamed}
 use Rattle.rules.specs.Replay.{Line, lineB, lineR, lineW, lineL, lineK, lineA, lineC, lineF, lineV, lineBad, Third, num, dash, Out, replay}
 
 abbrev pub Bytes : Type 0
@@ -94,10 +95,14 @@ abbrev pub third : Third → Bytes → Bytes
 third (num n) rest = decimal digits64 n rest
 third dash rest = 45 ∷ rest
 
+abbrev pub more : More → Bytes → Bytes
+more nothing rest = rest
+more (cause c) rest = 9 ∷ decimal digits64 (testNamed c) (9 ∷ decimal digits64 (placeNamed c) rest)
+
 -- "Output: line number, number, then .."
 abbrev pub write : ℕ → List Out → Bytes
 write n [] = []
-write n (o ∷ os) = let rest = write (suc n) os in decimal digits64 n (9 ∷ decimal digits64 (o .number) (9 ∷ third (o .third) (10 ∷ rest)))
+write n (o ∷ os) = let rest = write (suc n) os in decimal digits64 n (9 ∷ decimal digits64 (o .number) (9 ∷ third (o .third) (more (o .more) (10 ∷ rest))))
 
 unfoldable pub replayText : Bytes → Bytes
 replayText bs = write 1 (replay (parse bs))

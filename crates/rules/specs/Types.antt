@@ -23,6 +23,8 @@ pub use Rattle.records.specs.declared.Cut.{Cut}
 pub use Rattle.records.specs.declared.Cut.the-variants.{Uncut, After}
 pub use Rattle.records.specs.declared.Fate.{Fate}
 pub use Rattle.records.specs.declared.Fate.the-variants.{Open, Closed, Undone, Standing}
+pub use Rattle.records.specs.declared.Cause.{Cause}
+pub use Rattle.records.specs.declared.Cause.the-variants.{BusyGuard, IndexReadAt, RowLockAt, SerializationAt, WriteBaseAt}
 pub use Rattle.records.specs.declared.Refusal.{Refusal}
 pub use Rattle.records.specs.declared.Refusal.the-variants.{Done, NotResting, Unfit, NotActive, StepFailed, PrepareFailed, PreparePanicked, Conflict}
 pub use Rattle.records.specs.declared.Refusal.the-variants.{BoundDurably, FoundPoisoned, InsertFailed, CallbackFailed, CallbackPanicked, RemoveFailed}

@@ -73,10 +73,10 @@ module _ (S : Store) (x : Tx) (logged : Bool) (plan : Schedule) where
   abort-fate (unprepared h) false f = refl
   abort-fate (panicked h) true f = refl
   abort-fate (panicked h) false f = refl
-  abort-fate (busy h) true f = refl
-  abort-fate (busy h) false f = refl
-  abort-fate (conflict h) true f = refl
-  abort-fate (conflict h) false f = refl
+  abort-fate (busy b h) true f = refl
+  abort-fate (busy b h) false f = refl
+  abort-fate (conflict b h) true f = refl
+  abort-fate (conflict b h) false f = refl
   abort-fate (unhealthy h) true f = refl
   abort-fate (unhealthy h) false f = refl
 

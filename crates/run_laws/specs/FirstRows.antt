@@ -9,7 +9,7 @@ use lib.Dec.{eqb, ltb}
 use Rattle.basic_laws.specs.Cases.{clash, by, and-true}
 use Rattle.rules.specs.Lists.{those, flat, memb, isZero}
 use Rattle.rules.specs.Types.{Store, Tx, Write, Schedule, Answer, Cut, Uncut, After, Fate, Open, Closed, Refusal}
-use Rattle.rules.specs.Types.{NotResting, Unfit, NotActive, Conflict, CleanupFailed, CallbackFailed, CallbackPanicked}
+use Rattle.rules.specs.Types.{NotResting, Unfit, NotActive, Cause, Conflict, CleanupFailed, CallbackFailed, CallbackPanicked}
 use Rattle.rules.specs.Store.{activeTxids}
 use Rattle.rules.specs.Transaction.{finals}
 use Rattle.rules.specs.Admitted.{resting}
@@ -25,6 +25,7 @@ use Rattle.rules.specs.Answer.{uncut, cutOff, answer, unchanged, commit}
 use Rattle.run_laws.specs.GuardPuts.{guards-zero, index-back, both-back}
 use Rattle.run_laws.specs.Outcome.{Struck, struck, Taken, neither, index, both, Stay, faulted, durable, Abort, unprepared, panicked, busy}
 use Rattle.run_laws.specs.Outcome.{conflict, unhealthy, Passed, Spoil, unremoved, unpublished, unrecycled, unfinished, afterStamp, aborting, worse}
+use Rattle.run_laws.specs.Outcome.{yes-conflicts}
 use Rattle.run_laws.specs.Outcome.{panics, abortingLate, bad, Outcome, done, stays, aborts, uninserted, uncalled, spoils, unstamped, outcome}
 use Rattle.statements.specs.Words.{Admitted}
 
@@ -93,10 +94,10 @@ module _ {S : Store} {x : Tx} {logged : Bool} {plan : Schedule} (T : ℕ → Boo
   abort-either a b c d e (unprepared h) false f = a
   abort-either a b c d e (panicked h) true f = b
   abort-either a b c d e (panicked h) false f = b
-  abort-either a b c d e (busy h) true f = c
-  abort-either a b c d e (busy h) false f = c
-  abort-either a b c d e (conflict h) true f = c
-  abort-either a b c d e (conflict h) false f = c
+  abort-either a b c d e (busy z h) true f = c
+  abort-either a b c d e (busy z h) false f = c
+  abort-either a b c d e (conflict z h) true f = c
+  abort-either a b c d e (conflict z h) false f = c
   abort-either a b c d e (unhealthy h) true f = e
   abort-either a b c d e (unhealthy h) false f = d
 
@@ -169,13 +170,13 @@ module _ (S : Store) (x : Tx) (logged : Bool) (plan : Schedule) where
       rw u (only-stays _ _ _ (ok .rests) (outcome S x logged plan) (rw u at h))
 
   -- a schedule without a fault strikes nowhere
-  no-fault : plan .count ≡ 0 → Struck S x logged plan → ⊥
+  pub no-fault : plan .count ≡ 0 → Struck S x logged plan → ⊥
   unfolding strikes
   no-fault q h = clash (rw q at (h .is)) (h .true-letter)
 
-  pick-7 : (b : Bool) (f : Fate) → numberOf (cond b Conflict Conflict f) ≡ 7
-  pick-7 true f = refl
-  pick-7 false f = refl
+  pub pick-7 : (c : Cause) (b : Bool) (f : Fate) → numberOf (cond b (Conflict c) (Conflict c) f) ≡ 7
+  pick-7 c true f = refl
+  pick-7 c false f = refl
 
   quiet : (n : ℕ) (ps : List Put) (d : End) → plan .count ≡ 0 → S .poisoned ≡ false → (unloggedWrites S x logged plan && S .bound) ≡ false
       → Outcome S x logged plan n ps d → numberOf (d .refusal) ≡ cond (conflicting S x) 7 0
@@ -184,8 +185,8 @@ module _ (S : Store) (x : Tx) (logged : Bool) (plan : Schedule) where
   quiet _ _ _ q s f (stays l t (durable k)) = clash k f
   quiet _ _ _ q s f (aborts l t (unprepared k)) = absurd (no-fault q k)
   quiet _ _ _ q s f (aborts l t (panicked k)) = absurd (no-fault q k)
-  quiet _ _ _ q s f (aborts l t (busy k)) = absurd (no-fault q k)
-  quiet _ _ _ q s f (aborts l t (conflict k)) = rw k (pick-7 (aborting S x logged plan .failed) _)
+  quiet _ _ _ q s f (aborts l t (busy b k)) = absurd (no-fault q k)
+  quiet _ _ _ q s f (aborts l t (conflict b k)) = rw (yes-conflicts S x logged plan k) (pick-7 _ (aborting S x logged plan .failed) _)
   quiet _ _ _ q s f (aborts l t (unhealthy k)) =
       by (fails S x logged plan 10) (λ e. absurd (no-fault q (struck S x logged plan 10 F refl e))) (λ e. clash (rw (e, s) at k) refl)
   quiet _ _ _ q s f (uninserted p k) = absurd (no-fault q k)

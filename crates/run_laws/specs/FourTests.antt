@@ -9,10 +9,10 @@ use lib.Dec.{eqb}
 use borrow.Author.Tests.{eqb-true, eqb-false, ne-eqb, leb-true, le-leb, not-true}
 use Rattle.basic_laws.specs.Cases.{by, or-false}
 use Rattle.rules.specs.Lists.{any}
-use Rattle.rules.specs.Types.{Store, Tx, ReadRecord}
+use Rattle.rules.specs.Types.{Store, Tx, Write, ReadRecord}
 use Rattle.rules.specs.Transaction.{writesOf, readsOf, indexReadsOf, finalWrites}
 use Rattle.rules.specs.Calls.{lockedByAnother}
-use Rattle.rules.specs.Tests.{indexReadConflict, rowLockConflict, versionConflict, readConflict}
+use Rattle.rules.specs.Tests.{indexReadConflict, headLocked, rowLockConflict, versionConflict, readConflict}
 use Rattle.rules.specs.Tests.{serializationConflict, writeBaseConflict, conflicting}
 use Rattle.statements.specs.Words.{Some, LockedByAnother, Overtaken, Stale}
 
@@ -41,11 +41,15 @@ pub index-reads-say : (S : Store) (x : Tx) → (indexReadConflict S x ≡ true)
 unfolding indexReadConflict
 index-reads-say S x = either _ _ Iff·rfl (some _ _ (λ e. differ _ _) (indexReadsOf x))
 
--- "12 a written row's head has a live lock of another"
+-- "12 a written row's head has a live lock of another": of one write, and of them all
+pub head-locked-says : (S : Store) (x : Tx) (w : Write) → (headLocked S x w ≡ true) ↔ LockedByAnother S (x .txid .0) (getD (S .heads) (w .row .0) 0)
+unfolding lockedByAnother
+head-locked-says S x w = both _ _ Iff·rfl (both _ _ (differ _ _) Iff·rfl)
+
 pub row-locks-say : (S : Store) (x : Tx) → (rowLockConflict S x ≡ true)
     ↔ Some (λ w. LockedByAnother S (x .txid .0) (getD (S .heads) (w .row .0) 0)) (writesOf x)
-unfolding rowLockConflict lockedByAnother
-row-locks-say S x = some _ _ (λ w. both _ _ Iff·rfl (both _ _ (differ _ _) Iff·rfl)) (writesOf x)
+unfolding rowLockConflict
+row-locks-say S x = some _ _ (head-locked-says S x) (writesOf x)
 
 -- a test that asks one of two things, by whether a number is 0
 by-zero : {P Q : Type 0} (n : ℕ) (a b : Bool) → (a ≡ true) ↔ P → (b ≡ true) ↔ Q → (cond (eqb n 0) a b ≡ true) ↔ (((n ≡ 0) × P) ⊎ ((n ≢ 0) × Q))

@@ -9,11 +9,13 @@ use lib.ListN.{take}
 use Rattle.rules.specs.Types.{Store, Tx, Schedule, Fate, Open, Undone, Standing, Refusal, StepFailed, PrepareFailed, PreparePanicked}
 use Rattle.rules.specs.Types.{Conflict, BoundDurably, FoundPoisoned, InsertFailed, CallbackFailed, CallbackPanicked, RemoveFailed}
 use Rattle.rules.specs.Types.{PublishFailed, RecycleFailed, FinishFailed, StampFailed, CleanupFailed}
+use Rattle.rules.specs.Types.{Cause, BusyGuard, IndexReadAt, RowLockAt, SerializationAt, WriteBaseAt}
 use Rattle.rules.specs.Transaction.{noWrites, noAccesses, emptied}
 use Rattle.rules.specs.Faults.{B, P}
 use Rattle.rules.specs.Numbers.{fate}
 use Rattle.rules.specs.Puts.{Put, putPoison, putDoom}
 use Rattle.rules.specs.Tests.{indexReadConflict, rowLockConflict, serializationConflict, writeBaseConflict}
+use Rattle.rules.specs.Tests.{indexReadPlace, rowLockPlace, serializationPlace, writeBasePlace}
 use Rattle.rules.specs.Changes.{indexGuards, release, insertions, removals, publication, recycling, stamping}
 use Rattle.rules.specs.Commit.{End, ending, Step, goes, ends, stopIf, strikes, fails, count, unloggedWrites, finish, indexChangesMade}
 use Rattle.rules.specs.Commit.{indexLockKeys, prepareCommitRecord, runPrepare, acquireIndexLocks, acquirePartitionLocks}
@@ -77,6 +79,9 @@ module _ (S : Store) (x : Tx) (logged : Bool) (plan : Schedule) where
         dropped = false;
       }
 
+  abbrev pub conflictEnd : Cause → End
+  conflictEnd cause = abortEnd (Conflict cause) (Conflict cause) false false
+
   abbrev pub spoilEnd : (Fate → Refusal) → Tx → Bool → End
   spoilEnd kind y drops = record { refusal = kind Undone; tx = y; poisoned = true; cleanup = false; undone = false; dropped = drops }
 
@@ -135,20 +140,20 @@ module _ (S : Store) (x : Tx) (logged : Bool) (plan : Schedule) where
       ∷ at (logged && hit 6) 5 dying (abortEnd PrepareFailed CleanupFailed false true)
       ∷ at (logged && strikes S x logged plan 6 P) 5 dying (abortEnd PreparePanicked PreparePanicked false true)
       ∷ at (hit 7) 6 [] (stayEnd StepFailed)
-      ∷ at (strikes S x logged plan 7 B) 6 dying (abortEnd Conflict Conflict false false)
+      ∷ at (strikes S x logged plan 7 B) 6 dying (conflictEnd BusyGuard)
       ∷ at (hit 8) 7 (taking ++ indexGuards S x 0) (stayEnd StepFailed)
-      ∷ at (strikes S x logged plan 8 B) 7 (taking ++ (indexGuards S x 0 ++ dying)) (abortEnd Conflict Conflict false false)
+      ∷ at (strikes S x logged plan 8 B) 7 (taking ++ (indexGuards S x 0 ++ dying)) (conflictEnd BusyGuard)
       ∷ at (unloggedWrites S x logged plan && hit 9) 8 (guardsTaken S x logged plan ++ leaving) (stayEnd StepFailed)
       ∷ at (unloggedWrites S x logged plan && S .bound) 8 (guardsTaken S x logged plan ++ leaving) (stayEnd BoundDurably)
       ∷ at (hit 10 || S .poisoned) 9 (guardsTaken S x logged plan ++ (leaving ++ dying)) (abortEnd FoundPoisoned CleanupFailed (not (hit 10)) false)
       ∷ at (hit 11) 10 (guardsTaken S x logged plan ++ leaving) (stayEnd StepFailed)
-      ∷ at (indexReadConflict S x) 10 (guardsTaken S x logged plan ++ (leaving ++ dying)) (abortEnd Conflict Conflict false false)
+      ∷ at (indexReadConflict S x) 10 (guardsTaken S x logged plan ++ (leaving ++ dying)) (conflictEnd (IndexReadAt (indexReadPlace S x)))
       ∷ at (hit 12) 11 (guardsTaken S x logged plan ++ leaving) (stayEnd StepFailed)
-      ∷ at (rowLockConflict S x) 11 (guardsTaken S x logged plan ++ (leaving ++ dying)) (abortEnd Conflict Conflict false false)
+      ∷ at (rowLockConflict S x) 11 (guardsTaken S x logged plan ++ (leaving ++ dying)) (conflictEnd (RowLockAt (rowLockPlace S x)))
       ∷ at (hit 13) 12 (guardsTaken S x logged plan ++ leaving) (stayEnd StepFailed)
-      ∷ at (serializationConflict S x) 12 (guardsTaken S x logged plan ++ (leaving ++ dying)) (abortEnd Conflict Conflict false false)
+      ∷ at (serializationConflict S x) 12 (guardsTaken S x logged plan ++ (leaving ++ dying)) (conflictEnd (SerializationAt (serializationPlace S x)))
       ∷ at (hit 14) 13 (guardsTaken S x logged plan ++ leaving) (stayEnd StepFailed)
-      ∷ at (writeBaseConflict S x) 13 (guardsTaken S x logged plan ++ (leaving ++ dying)) (abortEnd Conflict Conflict false false)
+      ∷ at (writeBaseConflict S x) 13 (guardsTaken S x logged plan ++ (leaving ++ dying)) (conflictEnd (WriteBaseAt (writeBasePlace S x)))
       ∷ lateGates
 
   -- the run that passes them all

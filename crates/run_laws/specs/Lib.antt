@@ -1,7 +1,8 @@
 -- Laws of commit's run.
--- the table of faults; the four tests in words
+-- the table of faults; the four tests in words, and entry by entry
 pub mod FaultTable
 pub mod FourTests
+pub mod Entries
 -- puts by their kinds, and what they leave
 pub mod OnlyKinds
 pub mod GuardPuts

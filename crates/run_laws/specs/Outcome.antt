@@ -15,7 +15,9 @@ use Rattle.rules.specs.Transaction.{noWrites, noAccesses, emptied}
 use Rattle.rules.specs.Faults.{F, B, P, X, Q}
 use Rattle.rules.specs.Numbers.{fate}
 use Rattle.rules.specs.Puts.{Put, putDrop, putPoison, putDoom}
+use Rattle.rules.specs.Types.{Cause, BusyGuard, IndexReadAt, RowLockAt, SerializationAt, WriteBaseAt}
 use Rattle.rules.specs.Tests.{indexReadConflict, rowLockConflict, serializationConflict, writeBaseConflict, conflicting}
+use Rattle.rules.specs.Tests.{indexReadPlace, rowLockPlace, serializationPlace, writeBasePlace}
 use Rattle.rules.specs.Changes.{changes, destinations, indexGuards, partitionGuards, release, insertions, removals, publication, recycling, stamping}
 use Rattle.rules.specs.Commit.{End, ending, Step, goes, ends, stopIf, Clean, strikes, fails, count, abortOrPoison, rollback, unloggedWrites}
 use Rattle.rules.specs.Commit.{finish, indexChangesMade, indexLockKeys, prepareCommitRecord, runPrepare, acquireIndexLocks, acquirePartitionLocks}
@@ -70,12 +72,31 @@ module _ (S : Store) (x : Tx) (logged : Bool) (plan : Schedule) where
     faulted : Struck → Stay StepFailed
     durable : (unloggedWrites S x logged plan && S .bound) ≡ true → Stay BoundDurably
 
+  -- B strikes at 7 or 8
+  abbrev pub Busy : Bool
+  Busy = strikes S x logged plan 7 B || strikes S x logged plan 8 B
+
+  -- 11 to 14: the first test that says yes, and the cause that it gives
+  pub data Yes : Cause → Type 0 where
+    yes-11 : indexReadConflict S x ≡ true → Yes (IndexReadAt (indexReadPlace S x))
+    yes-12 : indexReadConflict S x ≡ false → rowLockConflict S x ≡ true → Yes (RowLockAt (rowLockPlace S x))
+    yes-13 : indexReadConflict S x ≡ false → rowLockConflict S x ≡ false → serializationConflict S x ≡ true
+        → Yes (SerializationAt (serializationPlace S x))
+    yes-14 : indexReadConflict S x ≡ false → rowLockConflict S x ≡ false → serializationConflict S x ≡ false → writeBaseConflict S x ≡ true
+        → Yes (WriteBaseAt (writeBasePlace S x))
+
+  pub yes-conflicts : {c : Cause} → Yes c → conflicting S x ≡ true
+  yes-conflicts (yes-11 h) = rw h
+  yes-conflicts (yes-12 t11 h) = rw (t11, h)
+  yes-conflicts (yes-13 t11 t12 h) = rw (t11, t12, h)
+  yes-conflicts (yes-14 t11 t12 t13 h) = rw (t11, t12, t13, h)
+
   -- 5, 6, 7 and 9: the number, the number where the abort fails, whether poison was found, whether a preparation is to be cleaned up
   pub data Abort : (Fate → Refusal) → (Fate → Refusal) → Bool → Bool → Type 0 where
     unprepared : Struck → Abort PrepareFailed CleanupFailed false true
     panicked : Struck → Abort PreparePanicked PreparePanicked false true
-    busy : Struck → Abort Conflict Conflict false false
-    conflict : conflicting S x ≡ true → Abort Conflict Conflict false false
+    busy : Busy ≡ true → Struck → Abort (Conflict BusyGuard) (Conflict BusyGuard) false false
+    conflict : {c : Cause} → Busy ≡ false → Yes c → Abort (Conflict c) (Conflict c) false false
     unhealthy : (fails S x logged plan 10 || S .poisoned) ≡ true → Abort FoundPoisoned CleanupFailed (not (fails S x logged plan 10)) false
 
   -- what holds once the tests are passed
@@ -210,20 +231,20 @@ module _ (S : Store) (x : Tx) (logged : Bool) (plan : Schedule) where
       follows-if _ (λ h. stop (aborts refl neither (unprepared (struck 6 F refl (and-true L _ h .1))))) (λ _.
       follows-if _ (λ h. stop (aborts refl neither (panicked (struck 6 P refl (and-true L _ h .1))))) (λ _. skip (
       follows-if _ (λ h. stop (stays refl neither (faulted (struck 7 F refl h)))) (λ _.
-      follows-if _ (λ h. stop (aborts refl neither (busy (struck 7 B refl h)))) (λ _. go (
+      follows-if _ (λ h. stop (aborts refl neither (busy (rw h) (struck 7 B refl h)))) (λ b7. go (
       follows-if _ (λ h. stop (stays refl index (faulted (struck 8 F refl h)))) (λ _.
-      follows-if _ (λ h. stop (aborts refl index (busy (struck 8 B refl h)))) (λ _. go (
+      follows-if _ (λ h. stop (aborts refl index (busy (rw (b7, h)) (struck 8 B refl h)))) (λ b8. go (
       follows-if _ (λ h. stop (stays refl both (faulted (struck 9 F refl (and-true (unloggedWrites S x L plan) _ h .1))))) (λ _.
       follows-if _ (λ h. stop (stays refl both (durable h))) (λ free. skip (
       follows-if _ (λ h. stop (aborts refl both (unhealthy h))) (λ sound. skip (
       follows-if _ (λ h. stop (stays refl both (faulted (struck 11 F refl h)))) (λ _.
-      follows-if (indexReadConflict S x) (λ h. stop (aborts refl both (conflict (rw h)))) (λ t11. skip (
+      follows-if (indexReadConflict S x) (λ h. stop (aborts refl both (conflict (rw (b7, b8)) (yes-11 h)))) (λ t11. skip (
       follows-if _ (λ h. stop (stays refl both (faulted (struck 12 F refl h)))) (λ _.
-      follows-if (rowLockConflict S x) (λ h. stop (aborts refl both (conflict (rw (t11, h))))) (λ t12. skip (
+      follows-if (rowLockConflict S x) (λ h. stop (aborts refl both (conflict (rw (b7, b8)) (yes-12 t11 h)))) (λ t12. skip (
       follows-if _ (λ h. stop (stays refl both (faulted (struck 13 F refl h)))) (λ _.
-      follows-if (serializationConflict S x) (λ h. stop (aborts refl both (conflict (rw (t11, t12, h))))) (λ t13. skip (
+      follows-if (serializationConflict S x) (λ h. stop (aborts refl both (conflict (rw (b7, b8)) (yes-13 t11 t12 h)))) (λ t13. skip (
       follows-if _ (λ h. stop (stays refl both (faulted (struck 14 F refl h)))) (λ _.
-      follows-if (writeBaseConflict S x) (λ h. stop (aborts refl both (conflict (rw (t11, t12, t13, h))))) (λ t14. skip (
+      follows-if (writeBaseConflict S x) (λ h. stop (aborts refl both (conflict (rw (b7, b8)) (yes-14 t11 t12 t13 h)))) (λ t14. skip (
       from-15 (record {
         allowed = free;
         healthy = or-false (fails S x L plan 10) (S .poisoned) sound .1;

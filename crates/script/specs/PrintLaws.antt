@@ -8,9 +8,10 @@ use lib.ListN.{length, drop, set}
 use lib.Seq.{drop-cons, drop-set-lt, getD-set-same, lt-length-set}
 use borrow.Author.Tests.{lt-ltb, le-ltb, ltb-true, ltb-false}
 use Rattle.basic_laws.specs.Cases.{by}
-use Rattle.rules.specs.Replay.{Third, num, dash, Out, says}
-use Rattle.rules.specs.Script.{Bytes, decimal, third, write}
-use Rattle.script.specs.Print.{digits, inDecimal, thirdText}
+use Rattle.rules.specs.Numbers.{More, nothing, cause, testNamed, placeNamed}
+use Rattle.rules.specs.Replay.{Third, num, dash, Out}
+use Rattle.rules.specs.Script.{Bytes, decimal, third, more, write}
+use Rattle.script.specs.Print.{digits, inDecimal, thirdText, moreText, tells}
 
 -- a byte set at k stands before what follows it
 set-before : (l : Bytes) (k b : ℕ) → k < length l → drop k (set l k b) ≡ b ∷ drop (suc k) l
@@ -47,13 +48,23 @@ unfolding inDecimal
 third-text (num n) rest = refl
 third-text dash rest = refl
 
-line-and-rest : (n : ℕ) (o : Out) (os : List Out)
-    → write n (o ∷ os) ≡ inDecimal n (9 ∷ inDecimal (o .number) (9 ∷ thirdText (o .third) (10 ∷ write (suc n) os)))
+more-text : (m : More) (rest : Bytes) → more m rest ≡ moreText m rest
 unfolding inDecimal
-line-and-rest n o os = λ i. decimal digits n (9 ∷ decimal digits (o .number) (9 ∷ third-text (o .third) (10 ∷ write (suc n) os) i))
+more-text nothing rest = refl
+more-text (cause c) rest = refl
 
-pub line-text : (line number : ℕ) (t : Third) → inDecimal line (9 ∷ inDecimal number (9 ∷ thirdText t (10 ∷ []))) ≡ write line (says number t ∷ [])
-line-text line number t = sym (line-and-rest line (says number t) [])
+-- the fields of an answer, before what follows its line
+abbrev fields : ℕ → Out → Bytes → Bytes
+fields n o rest = inDecimal n (9 ∷ inDecimal (o .number) (9 ∷ thirdText (o .third) (moreText (o .more) (10 ∷ rest))))
+
+line-and-rest : (n : ℕ) (o : Out) (os : List Out) → write n (o ∷ os) ≡ fields n o (write (suc n) os)
+unfolding inDecimal
+line-and-rest n o os = λ i.
+    let end = more-text (o .more) (10 ∷ write (suc n) os) i in
+    decimal digits n (9 ∷ decimal digits (o .number) (9 ∷ third-text (o .third) end i))
+
+pub line-text : (line number : ℕ) (t : Third) (m : More) → fields line (tells number t m) [] ≡ write line (tells number t m ∷ [])
+line-text line number t m = sym (line-and-rest line (tells number t m) [])
 
 -- what is put first stands before the rest, so that the answers can be written one by one
 decimal-onto : (f n : ℕ) (r s : Bytes) → decimal f n (r ++ s) ≡ decimal f n r ++ s
@@ -72,9 +83,16 @@ third-onto : (t : Third) (r s : Bytes) → thirdText t (r ++ s) ≡ thirdText t 
 third-onto (num n) r s = onto n r s
 third-onto dash r s = refl
 
-line-onto : (n m : ℕ) (t : Third) (s : Bytes)
-    → inDecimal n (9 ∷ inDecimal m (9 ∷ thirdText t (10 ∷ s))) ≡ inDecimal n (9 ∷ inDecimal m (9 ∷ thirdText t (10 ∷ []))) ++ s
-line-onto n m t s = rw (third-onto t (10 ∷ []) s, onto m (9 ∷ thirdText t (10 ∷ [])) s, onto n (9 ∷ inDecimal m (9 ∷ thirdText t (10 ∷ []))) s)
+more-onto : (m : More) (r s : Bytes) → moreText m (r ++ s) ≡ moreText m r ++ s
+more-onto nothing r s = refl
+more-onto (cause c) r s =
+    rw (onto (placeNamed c) r s, onto (testNamed c) (9 ∷ inDecimal (placeNamed c) r) s)
+
+line-onto : (n : ℕ) (o : Out) (s : Bytes) → fields n o s ≡ fields n o [] ++ s
+line-onto n o s =
+    let end = moreText (o .more) (10 ∷ []) in
+    let t = thirdText (o .third) end in
+    rw (more-onto (o .more) (10 ∷ []) s, third-onto (o .third) end s, onto (o .number) (9 ∷ t) s, onto n (9 ∷ inDecimal (o .number) (9 ∷ t)) s)
 
 pub write-one : (n : ℕ) (o : Out) (os : List Out) → write n (o ∷ os) ≡ write n (o ∷ []) ++ write (suc n) os
-write-one n o os = line-and-rest n o os ∙ line-onto n (o .number) (o .third) (write (suc n) os) ∙ ap (λ w. w ++ write (suc n) os) (sym (line-and-rest n o []))
+write-one n o os = line-and-rest n o os ∙ line-onto n o (write (suc n) os) ∙ ap (λ w. w ++ write (suc n) os) (sym (line-and-rest n o []))

@@ -7,7 +7,7 @@ use Prim.Native.Nat.{ℕ, zero, suc, _+_, _≤_, _<_}
 use native.Mathlib.Nat.{not-suc-le-zero}
 use native.Mathlib.Omega.{arith}
 use lib.ListN.{length, take}
-use Rattle.rules.specs.Types.{Store, Tx, Schedule}
+use Rattle.rules.specs.Types.{Store, Tx, Schedule, Cause}
 use Rattle.rules.specs.Tests.{indexReadConflict, rowLockConflict, serializationConflict, writeBaseConflict}
 use Rattle.rules.specs.Changes.{changes, destinations}
 use Rattle.rules.specs.Faults.{F, B, P, X, Q}
@@ -78,8 +78,8 @@ module _ (S : Store) (x : Tx) (logged : Bool) (plan other : Schedule) (a21 : Ali
   unfolding checkNotPoisoned
   s10 a = rw (a .letters F, aborts (S .poisoned))
 
-  tests : (n : ℕ) (b : Bool) → AlikeAt S x logged plan other n → test S x logged plan n b ≡ test S x logged other n b
-  tests n b a = rw (a .letters F, aborts (S .poisoned))
+  tests : (n : ℕ) (b : Bool) (c : Cause) → AlikeAt S x logged plan other n → test S x logged plan n b c ≡ test S x logged other n b c
+  tests n b c a = rw (a .letters F, aborts (S .poisoned))
 
   s15 : AlikeAt S x logged plan other 15 → prepareIndexDestinations S x logged plan ≡ prepareIndexDestinations S x logged other
   unfolding prepareIndexDestinations
@@ -151,8 +151,8 @@ module _ (S : Store) (x : Tx) (logged : Bool) (plan other : Schedule) (a21 : Ali
   same-steps =
       skip 0 (skip 1 (next 2 (λ e. omega arith) s3 (next 3 (λ e. omega arith) s4 (next 4 (λ e. omega arith) s5 (next 5 (λ e. omega arith) s6 (
       next 6 (λ e. omega arith) s7 (next 7 (λ e. omega arith) s8 (next 8 (λ e. omega arith) s9 (next 9 (λ e. omega arith) s10 (
-      next 10 (λ e. omega arith) (tests 11 (indexReadConflict S x)) (next 11 (λ e. omega arith) (tests 12 (rowLockConflict S x)) (
-      next 12 (λ e. omega arith) (tests 13 (serializationConflict S x)) (next 13 (λ e. omega arith) (tests 14 (writeBaseConflict S x)) (
+      next 10 (λ e. omega arith) (tests 11 (indexReadConflict S x) _) (next 11 (λ e. omega arith) (tests 12 (rowLockConflict S x) _) (
+      next 12 (λ e. omega arith) (tests 13 (serializationConflict S x) _) (next 13 (λ e. omega arith) (tests 14 (writeBaseConflict S x) _) (
       next 14 (λ e. omega arith) s15 (next 15 (λ e. omega arith) s16 (next 16 (λ e. omega arith) s17 (next 17 (λ e. omega arith) s18 (
       next 18 (λ e. omega arith) s19 (skip 19 (next 20 (λ e. omega arith) (λ _. s21) (next 21 (λ e. omega arith) s22 (skip 22 over))))))))))))))))))))))
 

@@ -23,3 +23,5 @@ pub mod RefusedCalls
 -- "Replay": its bytes; its lines
 pub mod ScriptSays
 pub mod ReplaySays
+-- document 02, wish 4: without the fourth and the fifth field each line is what it was
+pub mod AsBefore

@@ -1,7 +1,7 @@
 -- "Replay": what each line does and prints, where it starts, and how the answers are written.
 use mathlib.Core.Path.{_≡_, refl, sym, ap, _∙_}
 use mathlib.Core.Bool.{Bool, true, false, not}
-use mathlib.Core.List.{List, [], _∷_, _++_, append-assoc}
+use mathlib.Core.List.{List, [], _∷_, _++_, append-assoc, append-nil}
 use mathlib.Core.Logic.{_≢_}
 use Prim.Native.Nat.{ℕ, zero, suc, _+_, _-_, _*_, _/_, _%_, _^_, _<_, _≤_}
 use native.Mathlib.Nat.{pow-suc}
@@ -16,8 +16,9 @@ use Rattle.records.specs.Relations.{wide-written}
 use Rattle.records.specs.Zero.{zeroTx, noFault, noFaults}
 use Rattle.rules.specs.Lists.{all, memb, pad}
 use Rattle.rules.specs.Types.{Store, Tx, Fault, Schedule, Value, Absent, Key, Cut}
+use Rattle.rules.specs.Types.{Cause, BusyGuard, IndexReadAt, RowLockAt, SerializationAt, WriteBaseAt}
 use Rattle.rules.specs.Faults.{may, table, allowed, stepsApart, faultsOf, scheduleFit}
-use Rattle.rules.specs.Numbers.{numberOf}
+use Rattle.rules.specs.Numbers.{numberOf, More, nothing, cause, testNamed, placeNamed}
 use Rattle.rules.specs.Answer.{commit}
 use Rattle.rules.specs.Calls.{begin, read, write, lookup, rowLock, abort}
 use Rattle.rules.specs.Replay.{Line, lineB, lineR, lineW, lineL, lineK, lineA, lineC, lineF, lineV, lineBad, Third, num, dash, Out, Desk}
@@ -29,13 +30,15 @@ use Rattle.basic_laws.specs.AllOf.{all-then}
 use Rattle.basic_laws.specs.Blanks.{all-both}
 use Rattle.basic_laws.specs.Sound.{zeros, zeros-set}
 use Rattle.basic_laws.specs.LaidOut.{pad-length, take-pad}
-use Rattle.statements.specs.ReplayWords.{Bytes, worth, Decimal, IsThird, IsOutput, Third64, Outs64, txOf, Laid, Begins, KeyOrDash, Reads, Writes, LooksUp}
+use Rattle.statements.specs.ReplayWords.{Bytes, worth, Decimal, tabbed, IsThird, IsMore, IsOutput, Third64, More64, Outs64}
+use Rattle.statements.specs.ReplayWords.{txOf, Laid, Begins, KeyOrDash, Reads, Writes, LooksUp}
 use Rattle.statements.specs.ReplayWords.{Locks, Aborts, NoFaults, Commits, OneMore, Faults, Recovers}
 use Rattle.statements.specs.ReplayWords.{Refused, Does, Plays, Starts, Replays}
 use Rattle.sentences.specs.StoreSays.{fresh-store}
 use Rattle.sentences.specs.CallsSay.{zero-tx}
 use Rattle.sentences.specs.Refusals.{write-refused, lookup-refused}
 use Rattle.sentences.specs.ScriptSays.{script-says}
+use Rattle.sentences.specs.NumbersSay.{only-seven}
 
 -- WHAT EACH LINE DOES
 
@@ -51,6 +54,7 @@ unfolding turn
 begin-line i d =
     let n = numberOf (begin (d .store) .refusal) in
     record {
+      more = by (eqb n 0) (λ t. rw t) (λ t. rw t);
       number = by (eqb n 0) (λ t. rw t (sym (eqb-true n 0 t))) (λ t. rw t);
       store = λ z. rw (eq-eqb n 0 z);
       tx = λ z. rw (eq-eqb n 0 z) (laid-says i (begin (d .store) .tx) d (begin (d .store) .store) (d .plan));
@@ -68,6 +72,7 @@ unfolding turn
 read-line i r d =
     let a = read (d .store) (txOf d i) r in
     record {
+      more = refl;
       number = refl;
       store = refl;
       tx = laid-says i (a .tx) d (d .store) (d .plan);
@@ -88,6 +93,7 @@ unfolding turn
 write-line i r v d =
     let a = write (d .store) (txOf d i) r v in
     record {
+      more = refl;
       number = refl;
       store = refl;
       tx = laid-says i (a .tx) d (a .store) (d .plan);
@@ -101,6 +107,7 @@ unfolding turn
 lookup-line i k d =
     let a = lookup (d .store) (txOf d i) k in
     record {
+      more = refl;
       number = refl;
       store = refl;
       tx = laid-says i (a .tx) d (d .store) (d .plan);
@@ -119,6 +126,7 @@ unfolding turn
 lock-line i r d =
     let a = rowLock (d .store) (txOf d i) r in
     record {
+      more = refl;
       number = refl;
       store = refl;
       tx = rw (lock-tx (d .store) (txOf d i) r) (laid-says i (txOf d i) d (a .store) (d .plan));
@@ -130,7 +138,7 @@ abort-line : (i : ℕ) (d : Desk) → Aborts i d (turn (lineA i) d .desk) (turn 
 unfolding turn
 abort-line i d =
     let a = abort (d .store) (txOf d i) in
-    record { number = refl; store = refl; tx = laid-says i (a .tx) d (a .store) (d .plan); faults = refl; third = refl }
+    record { more = refl; number = refl; store = refl; tx = laid-says i (a .tx) d (a .store) (d .plan); faults = refl; third = refl }
 
 -- n places that are all z
 all-of : {A : Type 0} (n : ℕ) (z : A) → (length (replicate n z) ≡ n) × ((j : ℕ) → getD (replicate n z) j z ≡ z)
@@ -151,7 +159,15 @@ commit-line : (i : ℕ) (logged : Bool) (cut : Cut) (d : Desk)
 unfolding turn
 commit-line i logged cut d =
     let a = commit (d .store) (txOf d i) logged (d .plan) cut in
-    record { number = refl; store = refl; tx = laid-says i (a .tx) d (a .store) noFaults; faults = no-faults; third = refl }
+    record {
+      number = refl;
+      store = refl;
+      tx = laid-says i (a .tx) d (a .store) noFaults;
+      faults = no-faults;
+      third = refl;
+      more = λ c f e. rw e;
+      only-7 = only-seven (a .refusal);
+    }
 
 -- a step that allows a letter is none of 0, 1, 2 and below 25
 unfoldable barred : List ℕ
@@ -233,6 +249,7 @@ module _ (f : Fault) (c : Schedule) (h : (c .count ≤ 25) × (length (c .faults
 fault-line : (n b k : ℕ) (d : Desk) → Faults n b k d (turn (lineF n b k) d .desk) (turn (lineF n b k) d .out)
 unfolding turn
 fault-line n b k d = record {
+  more = refl;
   number = refl;
   third = refl;
   store = refl;
@@ -242,11 +259,11 @@ fault-line n b k d = record {
 
 recover-line : (d : Desk) → Recovers d (turn lineV d .desk) (turn lineV d .out)
 unfolding turn
-recover-line d = record { number = refl; third = refl; store = refl; txs = refl; faults = refl }
+recover-line d = record { more = refl; number = refl; third = refl; store = refl; txs = refl; faults = refl }
 
 bad-line : (d : Desk) → Refused d (turn lineBad d .desk) (turn lineBad d .out)
 unfolding turn
-bad-line d = record { number = refl; third = refl; desk = refl }
+bad-line d = record { more = refl; number = refl; third = refl; desk = refl }
 
 -- what each line does to the store, to its place's transaction, to the others and to the pending faults, and what it prints
 pub turn-says : (l : Line) (d : Desk) → Does l d (turn l d .desk) (turn l d .out)
@@ -332,7 +349,7 @@ in-decimal (suc f) n rest h l =
     left (suc f) b l = omega arith
 
 -- shut, since a goal would show each digit's step
-unfoldable inFull : ℕ → Bytes → Bytes
+unfoldable pub inFull : ℕ → Bytes → Bytes
 inFull n rest = decimal digits64 n rest
 
 full-says : (n : ℕ) (rest : Bytes) → n < 2 ^ 64 → (p : Bytes) × (inFull n rest ≡ p ++ rest) × Decimal n p
@@ -344,8 +361,27 @@ unfolding inFull
 third-says (num n) rest h = full-says n rest h
 third-says dash rest h = (45 ∷ [], refl, refl)
 
-line-first : (n : ℕ) (o : Out) (os : List Out)
-    → script.write n (o ∷ os) ≡ inFull n (9 ∷ inFull (o .number) (9 ∷ third (o .third) (10 ∷ script.write (suc n) os)))
+more-says : (m : More) (rest : Bytes) → More64 m → (p : Bytes) × (script.more m rest ≡ p ++ rest) × IsMore m p
+unfolding inFull
+more-says nothing rest h = ([], refl, refl)
+more-says (cause c) rest h =
+    let p = full-says (placeNamed c) rest h in
+    let t = full-says (testNamed c) (9 ∷ inFull (placeNamed c) rest) (test-small c) in (
+      tabbed (t .0 ∷ p .0 ∷ []),
+      ap (λ r. 9 ∷ r) (t .1 ∙ ap (λ r. t .0 ++ 9 ∷ r) (p .1 ∙ ap (λ r. r ++ rest) (sym (append-nil (p .0)))))
+          ∙ sym (ap (λ r. 9 ∷ r) (append-assoc (t .0) (9 ∷ (p .0 ++ [])) rest)),
+      (t .0, p .0, refl, t .2, p .2),
+    )
+  where
+    test-small : (c : Cause) → testNamed c < 2 ^ 64
+    test-small BusyGuard = omega arith
+    test-small (IndexReadAt p) = omega arith
+    test-small (RowLockAt p) = omega arith
+    test-small (SerializationAt p) = omega arith
+    test-small (WriteBaseAt p) = omega arith
+
+pub line-first : (n : ℕ) (o : Out) (os : List Out)
+    → script.write n (o ∷ os) ≡ inFull n (9 ∷ inFull (o .number) (9 ∷ third (o .third) (script.more (o .more) (10 ∷ script.write (suc n) os))))
 unfolding inFull
 line-first n o os = refl
 
@@ -354,18 +390,22 @@ pub output-says : (n : ℕ) (os : List Out) → n + length os ≤ 2 ^ 64 → Out
 output-says n [] l h = refl
 output-says n (o ∷ os) l h =
     let rest = script.write (suc n) os in
-    let c = third-says (o .third) (10 ∷ rest) (h .1) in
-    let b = full-says (o .number) (9 ∷ third (o .third) (10 ∷ rest)) (h .0) in
-    let a = full-says n (9 ∷ inFull (o .number) (9 ∷ third (o .third) (10 ∷ rest))) (omega arith) in (
+    let d = more-says (o .more) (10 ∷ rest) (h .2) in
+    let e = script.more (o .more) (10 ∷ rest) in
+    let c = third-says (o .third) e (h .1) in
+    let b = full-says (o .number) (9 ∷ third (o .third) e) (h .0) in
+    let a = full-says n (9 ∷ inFull (o .number) (9 ∷ third (o .third) e)) (omega arith) in (
       a .0,
       b .0,
       c .0,
+      d .0,
       rest,
-      line-first n o os ∙ a .1 ∙ ap (λ r. a .0 ++ 9 ∷ r) (b .1 ∙ ap (λ r. b .0 ++ 9 ∷ r) (c .1)),
+      line-first n o os ∙ a .1 ∙ ap (λ r. a .0 ++ 9 ∷ r) (b .1 ∙ ap (λ r. b .0 ++ 9 ∷ r) (c .1 ∙ ap (λ r. c .0 ++ r) (d .1))),
       a .2,
       b .2,
       c .2,
-      output-says (suc n) os (omega arith) (h .2),
+      d .2,
+      output-says (suc n) os (omega arith) (h .3),
     )
 
 -- A WHOLE REPLAY, from the script's bytes to the answers'

@@ -14,7 +14,7 @@ use Rattle.basic_laws.specs.Cases.{by, and-false, or-right}
 use Rattle.basic_laws.specs.Rearranged.{or-none, or-comm, and-comm}
 use Rattle.rules.specs.Lists.{memb}
 use Rattle.rules.specs.Types.{Store, Tx, Schedule, Events, Answer, Cut, Uncut, After, Fate, Open, Undone, Refusal, StepFailed, PrepareFailed, PreparePanicked}
-use Rattle.rules.specs.Types.{Conflict, BoundDurably, FoundPoisoned, CallbackFailed, CallbackPanicked, CleanupFailed}
+use Rattle.rules.specs.Types.{BusyGuard, Conflict, BoundDurably, FoundPoisoned, CallbackFailed, CallbackPanicked, CleanupFailed}
 use Rattle.rules.specs.Store.{activeTxids}
 use Rattle.rules.specs.Transaction.{finals}
 use Rattle.rules.specs.Admitted.{resting}
@@ -432,16 +432,16 @@ module _ (S : Store) (x : Tx) (logged : Bool) (plan : Schedule) where
       die (logged && hit 6) PrepareFailed CleanupFailed false true [] [] (
       die (logged && strikes S x logged plan 6 P) PreparePanicked PreparePanicked false true [] [] (skip (
       stay (hit 7) StepFailed [] [] (
-      die (strikes S x logged plan 7 B) Conflict Conflict false false [] [] (go I (
+      die (strikes S x logged plan 7 B) (Conflict BusyGuard) (Conflict BusyGuard) false false [] [] (go I (
       stay (hit 8) StepFailed I I0 (
-      die (strikes S x logged plan 8 B) Conflict Conflict false false I I0 (go _ (
+      die (strikes S x logged plan 8 B) (Conflict BusyGuard) (Conflict BusyGuard) false false I I0 (go _ (
       stay (unlogged S x logged plan && hit 9) StepFailed A A0 (
       stay (unlogged S x logged plan && S .bound) BoundDurably A A0 (skip (
       die (hit 10 || S .poisoned) FoundPoisoned CleanupFailed (not (hit 10)) false A A0 (skip (
-      stay (hit 11) StepFailed A A0 (die (indexReadConflict S x) Conflict Conflict false false A A0 (skip (
-      stay (hit 12) StepFailed A A0 (die (rowLockConflict S x) Conflict Conflict false false A A0 (skip (
-      stay (hit 13) StepFailed A A0 (die (serializationConflict S x) Conflict Conflict false false A A0 (skip (
-      stay (hit 14) StepFailed A A0 (die (writeBaseConflict S x) Conflict Conflict false false A A0 (skip
+      stay (hit 11) StepFailed A A0 (die (indexReadConflict S x) (Conflict _) (Conflict _) false false A A0 (skip (
+      stay (hit 12) StepFailed A A0 (die (rowLockConflict S x) (Conflict _) (Conflict _) false false A A0 (skip (
+      stay (hit 13) StepFailed A A0 (die (serializationConflict S x) (Conflict _) (Conflict _) false false A A0 (skip (
+      stay (hit 14) StepFailed A A0 (die (writeBaseConflict S x) (Conflict _) (Conflict _) false false A A0 (skip
       from-15)))))))))))))))))))))))))))))))))
 
   -- a run of the steps, whatever arrives

@@ -156,7 +156,7 @@ abbrev NoTabs : List Bytes → Type 0
 NoTabs [] = Unit
 NoTabs (w ∷ ws) = (memb 9 w ≡ false) × NoTabs ws
 
-split-on : (p s : Bytes) (ws : List Bytes) → memb 9 p ≡ false → split 9 s ≡ [] ∷ ws → split 9 (p ++ s) ≡ p ∷ ws
+pub split-on : (p s : Bytes) (ws : List Bytes) → memb 9 p ≡ false → split 9 s ≡ [] ∷ ws → split 9 (p ++ s) ≡ p ∷ ws
 split-on [] s ws n e = e
 split-on (b ∷ p) s ws n e =
     let d = or-false (eqb 9 b) (memb 9 p) n in

@@ -11,8 +11,8 @@ use lib.Dec.{eqb, ltb, leb}
 use borrow.Author.Tests.{eqb-true, eqb-false, eq-eqb, ne-eqb, ltb-true, ltb-false, lt-ltb, leb-true, le-leb, not-true}
 use Rattle.records.specs.Limits.{stripes}
 use Rattle.records.specs.Zero.{noWrite}
-use Rattle.rules.specs.Lists.{any, those, flat, nonzeroFrom, memb, rising, inOrder}
-use Rattle.rules.specs.Types.{Store, Tx, Write, Schedule, Value}
+use Rattle.rules.specs.Lists.{those, flat, nonzeroFrom, memb, rising, inOrder}
+use Rattle.rules.specs.Types.{Store, Tx, Write, Schedule, Value, Cause}
 use Rattle.rules.specs.Store.{valueAt, sameValue, partitionOf, usedSlots, slotsInForm}
 use Rattle.rules.specs.Transaction.{writesOf, readsOf, indexReadsOf, finalWrites, finals}
 use Rattle.rules.specs.Chains.{walk, on}
@@ -33,7 +33,8 @@ use Rattle.statements.specs.StepWords.{Rises, Exactly, OneEach, InTurn, Reverse
 use Rattle.statements.specs.StepWords.{ChangesOf, PostsOf, PutsIn, TakesOut, ChangedStripe, GuardedStripe}
 use Rattle.statements.specs.StepWords.{GuardedPartition, Takes, LetsGo, PublishesOne, Publishes}
 use Rattle.statements.specs.StepWords.{Leads, here, along, OnChain, OffChainOf, Recycled, FreesAndDrops, RollsBack, CleanRun}
-use Rattle.basic_laws.specs.Cases.{by, clash, iff, or-true, or-false, or-left, or-right, and-true, and-false, and-both, mem-here, mem-there}
+use Rattle.basic_laws.specs.FinalPlaces.{later, first-final, next-final}
+use Rattle.basic_laws.specs.Cases.{by, clash, iff, or-true, or-left, or-right, and-true, and-false, and-both, mem-here, mem-there}
 use Rattle.basic_laws.specs.Members.{at-mem, mem-those, mem-nonzero}
 use Rattle.basic_laws.specs.Rising.{rising-less, rising-from, rising-ext, mem-inOrder, rising-inOrder, rising-those}
 use Rattle.basic_laws.specs.Places.{blank-at}
@@ -92,22 +93,6 @@ flat-one (a ∷ l) = ap (λ m. a ∷ m) (flat-one l)
 
 -- FINAL WRITES
 
--- where a test of some fails it fails everywhere, and where it holds it holds somewhere
-none-at : {A : Type 0} (f : A → Bool) (l : List A) (z : A) → any f l ≡ false → (b : ℕ) → b < length l → f (getD l b z) ≡ false
-none-at f [] z h b lt = absurd (omega arith)
-none-at f (y ∷ l) z h zero lt = or-false (f y) (any f l) h .0
-none-at f (y ∷ l) z h (suc b) lt = none-at f l z (or-false (f y) (any f l) h .1) b (omega arith)
-
-some-at : {A : Type 0} (f : A → Bool) (l : List A) (z : A) → any f l ≡ true → (b : ℕ) × (b < length l) × (f (getD l b z) ≡ true)
-some-at f [] z h = clash {b = false} h refl
-some-at f (y ∷ l) z h = or-true (f y) (any f l) h
-    (λ e. (zero, omega arith, e))
-    (λ e. let k = some-at f l z e in (suc (k .0), omega (arith, k .1), k .2))
-
--- a later write of w's row
-abbrev later : Write → List Write → Bool
-later w ws = any (λ v. eqb (v .row .0) (w .row .0)) ws
-
 -- the places of the final writes
 abbrev finalPlaces : List Write → List ℕ
 finalPlaces [] = []
@@ -151,28 +136,6 @@ places-writes [] = refl
 places-writes (w ∷ ws) =
     let r = places-writes ws ∙ sym (up-writes w ws (finalPlaces ws)) in
     by (later w ws) (λ e. rw e r) (λ e. rw e (ap (λ m. w ∷ m) r))
-
--- the first place, and the others
-first-final : (w : Write) (ws : List Write) → (later w ws ≡ false) ↔ FinalAt (w ∷ ws) zero
-first-final w ws = (
-  λ e. (
-    omega arith,
-    λ b. elim b [
-      | zero ↦ λ lt lb. absurd (omega arith)
-      | suc b ↦ λ lt lb q. eqb-false _ _ (none-at (λ v. eqb (v .row .0) (w .row .0)) ws noWrite e b (omega arith)) q
-    ],
-  ),
-  λ h. by (later w ws)
-      (λ e. let k = some-at (λ v. eqb (v .row .0) (w .row .0)) ws noWrite e in
-      absurd (h .1 (suc (k .0)) (omega arith) (omega (arith, k .1)) (eqb-true _ _ (k .2))))
-      (λ e. e),
-)
-
-next-final : (w : Write) (ws : List Write) (a : ℕ) → FinalAt ws a ↔ FinalAt (w ∷ ws) (suc a)
-next-final w ws a = (
-  λ h. (omega (arith, h .0), λ b. elim b [ zero ↦ λ lt lb. absurd (omega arith) | suc b ↦ λ lt lb. h .1 b (omega arith) (omega arith) ]),
-  λ h. (omega (arith, h .0), λ b lt lb. h .1 (suc b) (omega arith) (omega arith)),
-)
 
 places-members : (ws : List Write) (i : ℕ) → (memb i (finalPlaces ws) ≡ true) ↔ FinalAt ws i
 places-members [] i = (λ m. clash {b = false} m refl, λ h. absurd (omega (arith, h .0)))
@@ -623,9 +586,9 @@ module _ (S : Store) (x : Tx) (logged : Bool) (plan : Schedule) (q : plan .count
   unfolding checkNotPoisoned stopIf
   ten sound = rw (unstruck 10, sound)
 
-  tested : (n : ℕ) (b : Bool) → b ≡ false → test S x logged plan n b ≡ goes []
+  tested : (n : ℕ) (b : Bool) (c : Cause) → b ≡ false → test S x logged plan n b c ≡ goes []
   unfolding stopIf
-  tested n b e = rw (unstruck n, e)
+  tested n b c e = rw (unstruck n, e)
 
   fifteen : prepareIndexDestinations S x logged plan ≡ goes (insertions S x)
   unfolding prepareIndexDestinations stopIf
@@ -675,8 +638,8 @@ module _ (S : Store) (x : Tx) (logged : Bool) (plan : Schedule) (q : plan .count
   clean-stores free sound t11 t12 t13 t14 =
       all-go (committed x) {pss = cleanly} (
       go refl (go refl (go three (go four (go five (go six (go seven (go eight (go (nine free) (go (ten sound) (
-      go (tested 11 (indexReadConflict S x) t11) (go (tested 12 (rowLockConflict S x) t12) (
-      go (tested 13 (serializationConflict S x) t13) (go (tested 14 (writeBaseConflict S x) t14) (
+      go (tested 11 (indexReadConflict S x) _ t11) (go (tested 12 (rowLockConflict S x) _ t12) (
+      go (tested 13 (serializationConflict S x) _ t13) (go (tested 14 (writeBaseConflict S x) _ t14) (
       go fifteen (go sixteen (go seventeen (go eighteen (go nineteen (go refl (go twenty-one (go twenty-two (go refl over)))))))))))))))))))))))
 
   -- a clean commit's stores, in the order of the steps

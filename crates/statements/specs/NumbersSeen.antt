@@ -1,5 +1,6 @@
 -- "Numbers seen" for a commit, as one table in upstream's order: when each number is answered, with which fate, which stores are made, in their
--- order, what store and transaction are afterwards, and which events are told. A row applies where none before it does.
+-- order, what store and transaction are afterwards, and which events are told. A row applies where none before it does. A 7 names the busy guard, or
+-- the test and the place of its first entry that conflicts (document 02's wish 4, in words in `CauseWords`), whether its abort failed or not.
 use mathlib.Core.Path.{_≡_}
 use mathlib.Core.Logic.{_≢_}
 use mathlib.Core.Bool.{Bool, true, false, not, cond, _&&_, _||_}
@@ -18,7 +19,9 @@ use Rattle.rules.specs.Admitted.{resting}
 use Rattle.rules.specs.Fit.{fit}
 use Rattle.rules.specs.Faults.{B, P, X, Q, scheduleFit}
 use Rattle.rules.specs.Puts.{Put, putInsert, putRemove, putDrop, putPoison, putDoom, apply, applyAll, abortPuts}
+use Rattle.rules.specs.Types.{BusyGuard, IndexReadAt, RowLockAt, SerializationAt, WriteBaseAt}
 use Rattle.rules.specs.Tests.{indexReadConflict, rowLockConflict, serializationConflict, writeBaseConflict}
+use Rattle.rules.specs.Tests.{indexReadPlace, rowLockPlace, serializationPlace, writeBasePlace}
 use Rattle.rules.specs.Changes.{changes, destinations, indexGuards, partitionGuards, insertions, removals, publication, recycling, stamping}
 use Rattle.rules.specs.Commit.{strikes, fails, count}
 use Rattle.rules.specs.Numbers.{numberOf}
@@ -240,27 +243,27 @@ module _ (S : Store) (x : Tx) (logged : Bool) (plan : Schedule) where
       ∷ unaborted 5 [] [] true 6 PreparePanicked (logged && struckBy 6 P)
       ∷ aborts 5 [] [] false 6 PreparePanicked (logged && struckBy 6 P)
       ∷ stays 6 [] [] 4 StepFailed (failed 7)
-      ∷ unaborted 6 [] [] false 7 Conflict (struckBy 7 B)
-      ∷ aborts 6 [] [] false 7 Conflict (struckBy 7 B)
+      ∷ unaborted 6 [] [] false 7 (Conflict BusyGuard) (struckBy 7 B)
+      ∷ aborts 6 [] [] false 7 (Conflict BusyGuard) (struckBy 7 B)
       ∷ stays 7 takesIndex letsIndexGo 4 StepFailed (failed 8)
-      ∷ unaborted 7 takesIndex letsIndexGo false 7 Conflict (struckBy 8 B)
-      ∷ aborts 7 takesIndex letsIndexGo false 7 Conflict (struckBy 8 B)
+      ∷ unaborted 7 takesIndex letsIndexGo false 7 (Conflict BusyGuard) (struckBy 8 B)
+      ∷ aborts 7 takesIndex letsIndexGo false 7 (Conflict BusyGuard) (struckBy 8 B)
       ∷ stays 8 takes letsGo 4 StepFailed (unlogged && failed 9)
       ∷ stays 8 takes letsGo 8 BoundDurably (unlogged && S .bound)
       ∷ unaborted 9 takes letsGo false 19 CleanupFailed (failed 10 || S .poisoned)
       ∷ aborts 9 takes letsGo (not (failed 10)) 9 FoundPoisoned (failed 10 || S .poisoned)
       ∷ stays 10 takes letsGo 4 StepFailed (failed 11)
-      ∷ unaborted 10 takes letsGo false 7 Conflict (indexReadConflict S x)
-      ∷ aborts 10 takes letsGo false 7 Conflict (indexReadConflict S x)
+      ∷ unaborted 10 takes letsGo false 7 (Conflict (IndexReadAt (indexReadPlace S x))) (indexReadConflict S x)
+      ∷ aborts 10 takes letsGo false 7 (Conflict (IndexReadAt (indexReadPlace S x))) (indexReadConflict S x)
       ∷ stays 11 takes letsGo 4 StepFailed (failed 12)
-      ∷ unaborted 11 takes letsGo false 7 Conflict (rowLockConflict S x)
-      ∷ aborts 11 takes letsGo false 7 Conflict (rowLockConflict S x)
+      ∷ unaborted 11 takes letsGo false 7 (Conflict (RowLockAt (rowLockPlace S x))) (rowLockConflict S x)
+      ∷ aborts 11 takes letsGo false 7 (Conflict (RowLockAt (rowLockPlace S x))) (rowLockConflict S x)
       ∷ stays 12 takes letsGo 4 StepFailed (failed 13)
-      ∷ unaborted 12 takes letsGo false 7 Conflict (serializationConflict S x)
-      ∷ aborts 12 takes letsGo false 7 Conflict (serializationConflict S x)
+      ∷ unaborted 12 takes letsGo false 7 (Conflict (SerializationAt (serializationPlace S x))) (serializationConflict S x)
+      ∷ aborts 12 takes letsGo false 7 (Conflict (SerializationAt (serializationPlace S x))) (serializationConflict S x)
       ∷ stays 13 takes letsGo 4 StepFailed (failed 14)
-      ∷ unaborted 13 takes letsGo false 7 Conflict (writeBaseConflict S x)
-      ∷ aborts 13 takes letsGo false 7 Conflict (writeBaseConflict S x)
+      ∷ unaborted 13 takes letsGo false 7 (Conflict (WriteBaseAt (writeBasePlace S x))) (writeBaseConflict S x)
+      ∷ aborts 13 takes letsGo false 7 (Conflict (WriteBaseAt (writeBasePlace S x))) (writeBaseConflict S x)
       ∷ rows15
 
   -- 0: "committed: lists emptied, txid kept"

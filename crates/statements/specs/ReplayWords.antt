@@ -8,9 +8,9 @@ use lib.ListN.{length, getD}
 use Rattle.records.specs.Limits.{placeLimit}
 use Rattle.records.specs.Zero.{zeroTx, noFault}
 use Rattle.rules.specs.Lists.{memb}
-use Rattle.rules.specs.Types.{Store, Tx, Fault, Schedule, Value, Absent, Key, Cut, Uncut, After}
+use Rattle.rules.specs.Types.{Tx, Fault, Schedule, Value, Absent, Key, Cut, Uncut, After, Fate, Cause, Conflict}
 use Rattle.rules.specs.Faults.{scheduleFit}
-use Rattle.rules.specs.Numbers.{numberOf}
+use Rattle.rules.specs.Numbers.{numberOf, More, nothing, cause, testNamed, placeNamed}
 use Rattle.rules.specs.Calls.{begin, read, write, lookup, rowLock, abort}
 use Rattle.rules.specs.Recovery.{recover}
 use Rattle.rules.specs.Answer.{commit}
@@ -101,21 +101,30 @@ abbrev pub IsThird : Third → Bytes → Type 0
 IsThird (num n) w = Decimal n w
 IsThird dash w = w ≡ 45 ∷ []
 
+-- document 02's wish 4: "the test as a fourth field and the place as a fifth", each after a tab; of any other answer nothing
+abbrev pub IsMore : More → Bytes → Type 0
+IsMore nothing w = w ≡ []
+IsMore (cause c) w = (t : Bytes) × (p : Bytes) × (w ≡ tabbed (t ∷ p ∷ [])) × Decimal (testNamed c) t × Decimal (placeNamed c) p
+
 -- "Output: line number, number, then ..", tab-separated, a line feed after each; the lines are numbered on from n
 abbrev pub IsOutput : ℕ → List Out → Bytes → Type 0
 IsOutput n [] w = w ≡ []
 IsOutput n (o ∷ os) w =
-    (p : Bytes) × (q : Bytes) × (t : Bytes) × (rest : Bytes) × (w ≡ p ++ 9 ∷ (q ++ 9 ∷ (t ++ 10 ∷ rest)))
-    × Decimal n p × Decimal (o .number) q × IsThird (o .third) t × IsOutput (suc n) os rest
+    (p : Bytes) × (q : Bytes) × (t : Bytes) × (m : Bytes) × (rest : Bytes) × (w ≡ p ++ 9 ∷ (q ++ 9 ∷ (t ++ (m ++ 10 ∷ rest))))
+    × Decimal n p × Decimal (o .number) q × IsThird (o .third) t × IsMore (o .more) m × IsOutput (suc n) os rest
 
 -- what is printed has 64 bits
 abbrev pub Third64 : Third → Type 0
 Third64 (num n) = n < 2 ^ 64
 Third64 dash = Unit
 
+abbrev pub More64 : More → Type 0
+More64 nothing = Unit
+More64 (cause c) = placeNamed c < 2 ^ 64
+
 abbrev pub Outs64 : List Out → Type 0
 Outs64 [] = Unit
-Outs64 (o ∷ os) = (o .number < 2 ^ 64) × Third64 (o .third) × Outs64 os
+Outs64 (o ∷ os) = (o .number < 2 ^ 64) × Third64 (o .third) × More64 (o .more) × Outs64 os
 
 -- WHAT EACH LINE DOES: the desk d before it, the desk e after it, what it prints
 
@@ -132,6 +141,7 @@ pub record Laid (i : ℕ) (x : Tx) (d e : Desk) : Type 0 where
 -- "B place": begin's store and transaction, "then txid"; "a refused B keeps its place's transaction", and all else; "0 for any .. refusal"
 pub record Begins (i : ℕ) (d e : Desk) (o : Out) : Type 0 where
   pub number : o .number ≡ numberOf (begin (d .store) .refusal)
+  pub more : o .more ≡ nothing
   pub store : numberOf (begin (d .store) .refusal) ≡ 0 → e .store ≡ begin (d .store) .store
   pub tx : numberOf (begin (d .store) .refusal) ≡ 0 → Laid i (begin (d .store) .tx) d e
   pub third : numberOf (begin (d .store) .refusal) ≡ 0 → o .third ≡ num (begin (d .store) .tx .txid .0)
@@ -146,6 +156,7 @@ KeyOrDash (Key k) t = t ≡ num k
 -- "R place row": read's transaction; the store as it was; a refused one prints 0, never -
 pub record Reads (i r : ℕ) (d e : Desk) (o : Out) : Type 0 where
   pub number : o .number ≡ numberOf (read (d .store) (txOf d i) r .refusal)
+  pub more : o .more ≡ nothing
   pub store : e .store ≡ d .store
   pub tx : Laid i (read (d .store) (txOf d i) r .tx) d e
   pub faults : e .plan ≡ d .plan
@@ -155,6 +166,7 @@ pub record Reads (i r : ℕ) (d e : Desk) (o : Out) : Type 0 where
 -- "W place row key or -": write's store and transaction, then "slot (W)"
 pub record Writes (i r : ℕ) (v : Value) (d e : Desk) (o : Out) : Type 0 where
   pub number : o .number ≡ numberOf (write (d .store) (txOf d i) r v .refusal)
+  pub more : o .more ≡ nothing
   pub store : e .store ≡ write (d .store) (txOf d i) r v .store
   pub tx : Laid i (write (d .store) (txOf d i) r v .tx) d e
   pub faults : e .plan ≡ d .plan
@@ -164,6 +176,7 @@ pub record Writes (i r : ℕ) (v : Value) (d e : Desk) (o : Out) : Type 0 where
 -- "L place key": lookup's transaction; the store as it was; then "row count (L)"
 pub record LooksUp (i k : ℕ) (d e : Desk) (o : Out) : Type 0 where
   pub number : o .number ≡ numberOf (lookup (d .store) (txOf d i) k .refusal)
+  pub more : o .more ≡ nothing
   pub store : e .store ≡ d .store
   pub tx : Laid i (lookup (d .store) (txOf d i) k .tx) d e
   pub faults : e .plan ≡ d .plan
@@ -173,6 +186,7 @@ pub record LooksUp (i k : ℕ) (d e : Desk) (o : Out) : Type 0 where
 -- "K place row": the row lock's store; the transactions as they were; "0 for any other line"
 pub record Locks (i r : ℕ) (d e : Desk) (o : Out) : Type 0 where
   pub number : o .number ≡ numberOf (rowLock (d .store) (txOf d i) r .refusal)
+  pub more : o .more ≡ nothing
   pub store : e .store ≡ rowLock (d .store) (txOf d i) r .store
   pub tx : Laid i (txOf d i) d e
   pub faults : e .plan ≡ d .plan
@@ -181,6 +195,7 @@ pub record Locks (i r : ℕ) (d e : Desk) (o : Out) : Type 0 where
 -- "A place": abort's store and transaction; "0 for any other line"
 pub record Aborts (i : ℕ) (d e : Desk) (o : Out) : Type 0 where
   pub number : o .number ≡ numberOf (abort (d .store) (txOf d i) .refusal)
+  pub more : o .more ≡ nothing
   pub store : e .store ≡ abort (d .store) (txOf d i) .store
   pub tx : Laid i (abort (d .store) (txOf d i) .tx) d e
   pub faults : e .plan ≡ d .plan
@@ -193,13 +208,15 @@ pub record NoFaults (c : Schedule) : Type 0 where
   pub zero : (j : ℕ) → getD (c .faults) j noFault ≡ record { step = 0; letter = 0; k = 0 }
 
 -- "C place u or l, optionally a cut": commit's store and transaction, with the pending faults, which it "uses up whatever it answers";
--- "stores (C, refused or not)"
+-- "stores (C, refused or not)"; document 02's wish 4: the cause of a conflict, "on 7 only"
 pub record Commits (i : ℕ) (logged : Bool) (cut : Cut) (d e : Desk) (o : Out) : Type 0 where
   pub number : o .number ≡ numberOf (commit (d .store) (txOf d i) logged (d .plan) cut .refusal)
   pub store : e .store ≡ commit (d .store) (txOf d i) logged (d .plan) cut .store
   pub tx : Laid i (commit (d .store) (txOf d i) logged (d .plan) cut .tx) d e
   pub faults : NoFaults (e .plan)
   pub third : o .third ≡ num (commit (d .store) (txOf d i) logged (d .plan) cut .stores)
+  pub more : (c : Cause) (f : Fate) → commit (d .store) (txOf d i) logged (d .plan) cut .refusal ≡ Conflict c f → o .more ≡ cause c
+  pub only-7 : numberOf (commit (d .store) (txOf d i) logged (d .plan) cut .refusal) ≢ 7 → o .more ≡ nothing
 
 -- a fault more, after those that there are; a full list stays as it is, since it is unfit whatever comes
 pub record OneMore (f : Fault) (c more : Schedule) : Type 0 where
@@ -212,6 +229,7 @@ pub record OneMore (f : Fault) (c more : Schedule) : Type 0 where
 -- "F step letter k (for the next C ..)": a fault more, nothing else
 pub record Faults (n b k : ℕ) (d e : Desk) (o : Out) : Type 0 where
   pub number : o .number ≡ 0
+  pub more : o .more ≡ nothing
   pub third : o .third ≡ num 0
   pub store : e .store ≡ d .store
   pub txs : e .txs ≡ d .txs
@@ -220,6 +238,7 @@ pub record Faults (n b k : ℕ) (d e : Desk) (o : Out) : Type 0 where
 -- "V recovers": recovery's store; transactions and pending faults as they were
 pub record Recovers (d e : Desk) (o : Out) : Type 0 where
   pub number : o .number ≡ numberOf (recover (d .store) .refusal)
+  pub more : o .more ≡ nothing
   pub third : o .third ≡ num 0
   pub store : e .store ≡ recover (d .store) .store
   pub txs : e .txs ≡ d .txs
@@ -228,6 +247,7 @@ pub record Recovers (d e : Desk) (o : Out) : Type 0 where
 -- "A line that isn't one of these forms is answered 2", and changes nothing
 pub record Refused (d e : Desk) (o : Out) : Type 0 where
   pub number : o .number ≡ 2
+  pub more : o .more ≡ nothing
   pub third : o .third ≡ num 0
   pub desk : e ≡ d
 

@@ -9,7 +9,7 @@ use lib.Dec.{eqb, leb}
 use borrow.Author.Tests.{leb-true, leb-false}
 use Rattle.records.specs.Zero.{onlyTxid}
 use Rattle.basic_laws.specs.Cases.{by}
-use Rattle.rules.specs.Types.{Store, Tx, Schedule, Open, Closed, Undone, Standing, Refusal, Done, StepFailed, PrepareFailed}
+use Rattle.rules.specs.Types.{Store, Tx, Schedule, Cause, Open, Closed, Undone, Standing, Refusal, Done, StepFailed, PrepareFailed}
 use Rattle.rules.specs.Types.{PreparePanicked, Conflict, BoundDurably, FoundPoisoned, InsertFailed, CallbackFailed, CallbackPanicked}
 use Rattle.rules.specs.Types.{RemoveFailed, PublishFailed, RecycleFailed, FinishFailed, StampFailed, CleanupFailed}
 use Rattle.rules.specs.Transaction.{noWrites, noAccesses, emptied}
@@ -22,6 +22,7 @@ use Rattle.steps.specs.declared.gate.Gate.{Gate}
 use Rattle.commit_tests.specs.Striking.{letterAt}
 use Rattle.steps.specs.GateTable.{leftAll, leftByAbort, leftNoAccesses, leftNoWrites, gateTable, cleanRow, cleanGate, rowAt, passedAt}
 use Rattle.steps.specs.Stops.{hits, gateOf, run-at}
+use Rattle.steps.specs.Causes.{causeAfter}
 use Rattle.steps.specs.RecordAndEvents.{endWith}
 
 -- 0, 4 and 8
@@ -61,12 +62,12 @@ module _ (letter : ℕ → ℕ) where
   abbrev pub rollbackFails : Bool
   rollbackFails = hits letter 24 F
 
-  unfoldable pub endingFor : ℕ → Ending
-  endingFor n =
+  unfoldable pub endingFor : Cause → ℕ → Ending
+  endingFor cause n =
       cond (eqb n 4) (stayEnding (StepFailed Open))
       (cond (eqb n 5) (abortEnding abortFails (PrepareFailed Closed) (CleanupFailed Undone) false true)
       (cond (eqb n 6) (abortEnding abortFails (PreparePanicked Closed) (PreparePanicked Undone) false true)
-      (cond (eqb n 7) (abortEnding abortFails (Conflict Closed) (Conflict Undone) false false)
+      (cond (eqb n 7) (abortEnding abortFails (Conflict cause Closed) (Conflict cause Undone) false false)
       (cond (eqb n 8) (stayEnding (BoundDurably Open))
       (cond (eqb n 9) (abortEnding abortFails (FoundPoisoned Closed) (CleanupFailed Undone) (not (hits letter 10 F)) false)
       (cond (eqb n 10) (insertEnding rollbackFails)
@@ -86,11 +87,11 @@ module _ (letter : ℕ → ℕ) where
       (cond (eqb k leftNoWrites) (noWrites x) (emptied x))))
 
   -- the end that a row of the table gives, and the end at a gate
-  abbrev pub endBy : Tx → Gate → End
-  endBy x r = endWith (endingFor (r .0)) (txFor x (r .2))
+  abbrev pub endBy : Store → Tx → Gate → End
+  endBy S x r = endWith (endingFor (causeAfter S x (r .1)) (r .0)) (txFor x (r .2))
 
-  unfoldable pub endAt : Tx → ℕ → End
-  endAt x g = endBy x (rowAt g)
+  unfoldable pub endAt : Store → Tx → ℕ → End
+  endAt S x g = endBy S x (rowAt g)
 
 -- what stands after a list stands past its end too
 past-end {ℓ} : {A : Type ℓ} (l : List A) (i : ℕ) (d : A) → getD (l ++ d ∷ []) i d ≡ getD l i d
@@ -101,14 +102,14 @@ past-end (x ∷ l) (suc i) d = past-end l i d
 
 -- they are the ends of commit's gates
 module _ (S : Store) (x : Tx) (logged : Bool) (plan : Schedule) where
-  all-ends : map (λ g. g .then .end) (gates S x logged plan) ≡ map (endBy (letterAt (faultsOf plan)) x) gateTable
-  unfolding gates strikes abortOrPoison rollback letterAt endingFor txFor
+  all-ends : map (λ g. g .then .end) (gates S x logged plan) ≡ map (endBy (letterAt (faultsOf plan)) S x) gateTable
+  unfolding gates strikes abortOrPoison rollback letterAt endingFor causeAfter txFor
   all-ends =
       by (eqb (faultAt 23 (faultsOf plan) .letter) F)
       (λ a. by (eqb (faultAt 24 (faultsOf plan) .letter) F) (λ b. rw (a, b)) (λ b. rw (a, b)))
       (λ a. by (eqb (faultAt 24 (faultsOf plan) .letter) F) (λ b. rw (a, b)) (λ b. rw (a, b)))
 
-  last-end : committed x ≡ endBy (letterAt (faultsOf plan)) x cleanRow
+  last-end : committed x ≡ endBy (letterAt (faultsOf plan)) S x cleanRow
   unfolding endingFor txFor
   last-end = refl
 
@@ -117,15 +118,15 @@ module _ (S : Store) (x : Tx) (logged : Bool) (plan : Schedule) where
   all-passed = refl
 
   -- a run ends as its gate says, after the steps that its gate says
-  pub run-end : runOf S x logged plan .end ≡ endAt (letterAt (faultsOf plan)) x (gateOf S x logged plan)
+  pub run-end : runOf S x logged plan .end ≡ endAt (letterAt (faultsOf plan)) S x (gateOf S x logged plan)
   unfolding gates endAt rowAt
   run-end =
       let g = gateOf S x logged plan in
       ap (λ r. r .end) (run-at S x logged plan ∙ past-end (map (λ h. h .then) (gates S x logged plan)) g (clean S x logged plan))
       ∙ sym (List·getD-map (λ (r : Run). r .end) (map (λ h. h .then) (gates S x logged plan)) g (clean S x logged plan))
       ∙ ap (λ (l : List End). getD l g (committed x)) all-ends
-      ∙ ap (getD (map (endBy (letterAt (faultsOf plan)) x) gateTable) g) last-end
-      ∙ List·getD-map (endBy (letterAt (faultsOf plan)) x) gateTable g cleanRow
+      ∙ ap (getD (map (endBy (letterAt (faultsOf plan)) S x) gateTable) g) last-end
+      ∙ List·getD-map (endBy (letterAt (faultsOf plan)) S x) gateTable g cleanRow
 
   pub run-passed : runOf S x logged plan .passed ≡ passedAt (gateOf S x logged plan)
   unfolding gates rowAt
@@ -137,8 +138,8 @@ module _ (S : Store) (x : Tx) (logged : Bool) (plan : Schedule) where
       ∙ List·getD-map (λ (r : Gate). r .1) gateTable g cleanRow
 
 -- a run is done exactly where it passes all gates
-module _ (letter : ℕ → ℕ) where
-  all-done : map (λ (r : Gate). isDone (endingFor letter (r .0) .refusal)) gateTable ≡ replicate cleanGate false
+module _ (letter : ℕ → ℕ) (S : Store) (x : Tx) where
+  all-done : map (λ (r : Gate). isDone (endBy letter S x r .refusal)) gateTable ≡ replicate cleanGate false
   unfolding endingFor
   all-done =
       by (hits letter 16 P || hits letter 16 Q)
@@ -154,9 +155,9 @@ module _ (letter : ℕ → ℕ) where
       (λ e. rw e (List·getD-eq-default (replicate cleanGate false) true {n = g} (omega (arith, leb-true))))
       (λ e. rw e (getD-replicate cleanGate g false true (omega (arith, leb-false))))
 
-  pub done-at : (x : Tx) (g : ℕ) → isDone (endAt letter x g .refusal) ≡ leb cleanGate g
+  pub done-at : (g : ℕ) → isDone (endAt letter S x g .refusal) ≡ leb cleanGate g
   unfolding endAt rowAt endingFor
-  done-at x g =
-      sym (List·getD-map (λ (r : Gate). isDone (endingFor letter (r .0) .refusal)) gateTable g cleanRow)
+  done-at g =
+      sym (List·getD-map (λ (r : Gate). isDone (endBy letter S x r .refusal)) gateTable g cleanRow)
       ∙ ap (λ (l : List Bool). getD l g true) all-done
       ∙ done-past g

@@ -1,5 +1,6 @@
 pub mod GateTable
 pub mod Stops
+pub mod Causes
 pub mod RecordAndEvents
 pub mod Ends
 pub mod RunFound

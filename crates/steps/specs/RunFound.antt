@@ -1,11 +1,11 @@
--- What code finds, put together: the run of commit's steps and its answer, from the gate, the ending and the transaction left.
+-- What code finds, put together: the run of commit's steps and its answer, from the gate, the cause, the ending and the transaction left.
 use mathlib.Core.Path.{_≡_, sym, ap, _∙_}
 use mathlib.Core.Bool.{Bool}
 use mathlib.Core.List.{[], _∷_, _++_, map}
 use Prim.Native.Nat.{ℕ}
 use lib.ListN.{length, getD, List·getD-map}
 use lib.Dec.{ltb, leb}
-use Rattle.rules.specs.Types.{Store, Tx, Schedule}
+use Rattle.rules.specs.Types.{Store, Tx, Schedule, Cause}
 use Rattle.rules.specs.Numbers.{isDone}
 use Rattle.rules.specs.Transaction.{finals}
 use Rattle.rules.specs.Faults.{faultsOf}
@@ -18,6 +18,7 @@ use Rattle.steps.specs.declared.ends.Ending.{Ending}
 use Rattle.commit_tests.specs.Striking.{letters, letterAt, letters-say}
 use Rattle.steps.specs.GateTable.{cleanGate, numberAt, passedAt, leftAt}
 use Rattle.steps.specs.Stops.{letterIn, gateOf, run-at}
+use Rattle.steps.specs.Causes.{causeAt}
 use Rattle.steps.specs.RecordAndEvents.{endWith, recordIf, record-if, eventsBy, events-by}
 use Rattle.steps.specs.Ends.{endingFor, txFor, endAt, run-end, run-passed, done-at}
 
@@ -31,12 +32,13 @@ module _ (S : Store) (x : Tx) (logged : Bool) (plan : Schedule) where
       ∙ sym (List·getD-map (λ (r : Run). r .puts) (map (λ g. g .then) (gates S x logged plan) ++ clean S x logged plan ∷ [])
       (gateOf S x logged plan) (clean S x logged plan))
 
-  -- g, l, a and y as `first_gate`, `letters_of`, `ending_at` and `tx_left` find them
-  module _ (g : ℕ) (at : g ≡ gateOf S x logged plan) (l : Letters) (is : l ≡ letters plan) (a : Ending) (so : a ≡ endingFor (letterIn l) (numberAt g)) where
+  -- g and k, l, a and y as `first_gate`, `letters_of`, `ending_at` and `tx_left` find them
+  module _ (g : ℕ) (at : g ≡ gateOf S x logged plan) (k : Cause) (why : k ≡ causeAt S x g) (l : Letters) (is : l ≡ letters plan)
+      (a : Ending) (so : a ≡ endingFor (letterIn l) k (numberAt g)) where
     -- the end that the gate gives, from the table of letters
-    tabled : (y : Tx) → y ≡ txFor (letterIn l) x (leftAt g) → endAt (letterAt (faultsOf plan)) x g ≡ endWith a y
+    tabled : (y : Tx) → y ≡ txFor (letterIn l) x (leftAt g) → endAt (letterAt (faultsOf plan)) S x g ≡ endWith a y
     unfolding endAt
-    tabled y left = rw (so, left, letters-say plan l is)
+    tabled y left = rw (so, left, why, letters-say plan l is)
 
     pub run-ends : (y : Tx) → y ≡ txFor (letterIn l) x (leftAt g) → runOf S x logged plan .end ≡ endWith a y
     run-ends y left = run-end S x logged plan ∙ rw (← at) (tabled y left)
@@ -56,5 +58,5 @@ module _ (S : Store) (x : Tx) (logged : Bool) (plan : Schedule) where
         let end = run-ends y left in
         let passed : runOf S x logged plan .passed ≡ passedAt g = run-passed S x logged plan ∙ ap passedAt (sym at) in
         let done : isDone (a .refusal) ≡ leb cleanGate g =
-        ap (λ (e : End). isDone (e .refusal)) (sym (tabled y left)) ∙ done-at (letterAt (faultsOf plan)) x g in
+        ap (λ (e : End). isDone (e .refusal)) (sym (tabled y left)) ∙ done-at (letterAt (faultsOf plan)) S x g in
         rw (end, passed, record-if (a .refusal) x, done, events-by logged (S .bound) (ltb 0 (length (finals x))) (passedAt g) a y)

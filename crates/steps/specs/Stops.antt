@@ -1,5 +1,5 @@
 -- Which gate stops a run, as a number: the first of commit's gates whose test holds.
-use mathlib.Core.Path.{_≡_, refl, sym, ap, _∙_}
+use mathlib.Core.Path.{_≡_, refl, sym, _∙_}
 use mathlib.Core.Bool.{Bool, true, false, not, cond, _&&_, _||_}
 use mathlib.Core.List.{List, [], _∷_, _++_, map}
 use Prim.Native.Nat.{ℕ, suc, _+_, _<_, _≤_}
@@ -8,8 +8,8 @@ use native.Mathlib.Omega.{arith}
 use lib.ListN.{length, getD}
 use lib.Dec.{eqb, ltb}
 use Rattle.basic_laws.specs.Cases.{by}
-use Rattle.rules.specs.Types.{Store, Tx, Write, Schedule}
-use Rattle.rules.specs.Lists.{any}
+use Rattle.rules.specs.Types.{Store, Tx, Schedule}
+use Rattle.rules.specs.Lists.{firstTrue}
 use Rattle.rules.specs.Transaction.{finals}
 use Rattle.rules.specs.Faults.{F, B, P, X, Q, faultsOf}
 use Rattle.rules.specs.Tests.{indexReadConflict, rowLockConflict, serializationConflict, writeBaseConflict}
@@ -17,13 +17,7 @@ use Rattle.rules.specs.Commit.{strikes, Run, runOf}
 use Rattle.run_laws.specs.Gates.{Gate, first, gates, clean, run-gates}
 use Rattle.commit_tests.specs.declared.faults.Letters.{Letters}
 use Rattle.commit_tests.specs.Striking.{letters, letterAt, letters-say}
-use Rattle.commit_tests.specs.Conflicts.{baseMoved, write-base-of}
 use Rattle.steps.specs.GateTable.{changesFailed, indexGuardsFailed, indexReadsFailed, insertFailed, cleanGate}
-
--- the place of the first test that holds; the number of tests if none does
-abbrev pub firstTrue : List Bool → ℕ
-firstTrue [] = 0
-firstTrue (b ∷ bs) = cond b 0 (suc (firstTrue bs))
 
 -- the run of the first gate that holds, by the gate's place
 pub first-at : (gs : List Gate) (r : Run) → first gs r ≡ getD (map (λ g. g .then) gs ++ r ∷ []) (firstTrue (map (λ g. g .when) gs)) r
@@ -154,11 +148,11 @@ pub run-at : (S : Store) (x : Tx) (logged : Bool) (plan : Schedule)
 unfolding gateOf
 run-at S x logged plan = run-gates S x logged plan ∙ first-at (gates S x logged plan) (clean S x logged plan)
 
--- what `first_gate` finds on S, by a schedule's letters and the final writes, is the gate
-pub gate-of : (S : Store) (x : Tx) (logged : Bool) (plan : Schedule) (g : ℕ) {l : Letters} {writing : Bool} {ws : List Write}
-    → l ≡ letters plan → writing ≡ ltb 0 (length (finals x)) → ws ≡ finals x
+-- what `first_gate` finds on S, by a schedule's letters, is the gate
+pub gate-of : (S : Store) (x : Tx) (logged : Bool) (plan : Schedule) (g : ℕ) {l : Letters} {writing : Bool}
+    → l ≡ letters plan → writing ≡ ltb 0 (length (finals x))
     → g ≡ firstTrue (gateTests (letterIn l) logged writing (S .bound) (S .poisoned)
-    (indexReadConflict S x) (rowLockConflict S x) (serializationConflict S x) (any (baseMoved (S .heads)) ws))
+    (indexReadConflict S x) (rowLockConflict S x) (serializationConflict S x) (writeBaseConflict S x))
     → g ≡ gateOf S x logged plan
 unfolding gateOf
-gate-of S x logged plan g {l} is some laid e = e ∙ rw (some, letters-say plan l is, write-base-of S x laid, gate-tests S x logged plan)
+gate-of S x logged plan g {l} is some e = e ∙ rw (some, letters-say plan l is, gate-tests S x logged plan)

@@ -18,6 +18,7 @@ use super::left::no_writes;
 use super::logic::either;
 use commit_tests::faults::Letters;
 use recording::changed::only_txid;
+use records::Cause;
 use records::Fate;
 use records::Refusal;
 use records::Tx;
@@ -93,13 +94,13 @@ fn prepare_panicked(failed: bool) -> Ending
     )
 }
 
-fn conflict(failed: bool) -> Ending
-    ensures { λ e. ⌜ e ≡ abortEnding failed (Conflict Closed) (Conflict Undone) false false ⌝ }
+fn conflict(failed: bool, cause: Cause) -> Ending
+    ensures { λ e. ⌜ e ≡ abortEnding failed (Conflict cause Closed) (Conflict cause Undone) false false ⌝ }
 {
     aborts(
         failed,
-        Refusal::Conflict(Fate::Closed),
-        Refusal::Conflict(Fate::Undone),
+        Refusal::Conflict(cause, Fate::Closed),
+        Refusal::Conflict(cause, Fate::Undone),
         false,
         false,
     )
@@ -185,9 +186,9 @@ fn spoils(why: Refusal, drops: bool) -> Ending
     }
 }
 
-// The refusal and the flags of a run that ends at the gate.
-pub fn ending_at(gate: usize, l: Letters) -> Ending
-    ensures { λ e. ⌜ e ≡ endingFor (letterIn l) (numberAt gate) ⌝ }
+// The refusal and the flags of a run that ends at the gate, with the cause of a 7.
+pub fn ending_at(gate: usize, cause: Cause, l: Letters) -> Ending
+    ensures { λ e. ⌜ e ≡ endingFor (letterIn l) cause (numberAt gate) ⌝ }
 {
     let number = number_at(gate);
     let failed = l.at[23] == b'F';
@@ -195,7 +196,7 @@ pub fn ending_at(gate: usize, l: Letters) -> Ending
         4 => stays(Refusal::StepFailed(Fate::Open)),
         5 => prepare_failed(failed),
         6 => prepare_panicked(failed),
-        7 => conflict(failed),
+        7 => conflict(failed, cause),
         8 => stays(Refusal::BoundDurably(Fate::Open)),
         9 => found_poisoned(failed, l.at[10] != b'F'),
         10 => insert_failed(l.at[24] == b'F'),

@@ -1,23 +1,30 @@
 // The steps of commit in upstream's order, to the first that ends the run.
 
 ghost use mathlib.Core.Path.{_≡_};
-ghost use lib.ListN.{take};
+ghost use Prim.Native.Nat.{_<_};
 ghost use Rattle.rules.specs.Types.{Store};
-ghost use Rattle.rules.specs.Lists.{any};
-ghost use Rattle.rules.specs.Tests.{indexReadConflict, rowLockConflict, serializationConflict};
-ghost use Rattle.commit_tests.specs.Conflicts.{Lends, baseMoved};
-ghost use Rattle.steps.specs.GateTable.{changesFailed, indexGuardsFailed, indexReadsFailed, insertFailed};
-ghost use Rattle.steps.specs.Stops.{firstTrue, gateFrom, letterIn, openingTests, guardingTests, conflictTests, closingTests, gateTests};
+ghost use Rattle.rules.specs.Lists.{firstTrue};
+ghost use Rattle.rules.specs.Tests.{indexReadConflict, rowLockConflict, serializationConflict, writeBaseConflict};
+ghost use Rattle.commit_tests.specs.Conflicts.{Lends};
+ghost use Rattle.steps.specs.GateTable.{changesFailed, indexGuardsFailed, indexReadsFailed, insertFailed, cleanGate};
+ghost use Rattle.steps.specs.Stops.{gateFrom, letterIn, openingTests, guardingTests, conflictTests, closingTests, gateTests};
+ghost use Rattle.steps.specs.Causes.{causeAt};
 use super::gate::Gate;
 use super::gates;
 use commit_tests::conflicts;
 use commit_tests::faults::Letters;
-use commit_tests::finals::Finals;
+use records::Cause;
 use records::RowId;
 use records::SlotPtr;
 use records::Store;
 use records::Tx;
 use records::Txid;
+
+// Where a run ends: its gate, and the cause that a 7 gives there.
+pub struct Stop {
+    pub gate: usize,
+    pub cause: Cause,
+}
 
 // Steps 1 to 6: nothing is taken yet.
 fn opening(l: Letters, logged: bool) -> usize
@@ -76,34 +83,44 @@ fn testing<'a>(
     xmin: &'a [u64; SlotPtr::PLACES],
     xmax: &'a [u64; SlotPtr::PLACES],
     x: Tx,
-    finals: Finals,
-) -> usize
-    ensures { λ g. ⌜ ((S : Store)
+) -> Stop
+    ensures { λ r. ⌜ ((S : Store)
         → Lends S (now (stamps .entry)) (now (heads .entry)) (now (locked .entry)) (now (owner .entry)) (now (active .entry)) (now (xmin .entry))
         (now (xmax .entry))
-        → g ≡ gateFrom indexReadsFailed
-        (conflictTests (letterIn l) (indexReadConflict S x) (rowLockConflict S x) (serializationConflict S x)
-        (any (baseMoved (S .heads)) (take (finals .count) (finals .at))))) ⌝ }
+        → (r .gate ≡ gateFrom indexReadsFailed
+        (conflictTests (letterIn l) (indexReadConflict S x) (rowLockConflict S x) (serializationConflict S x) (writeBaseConflict S x)))
+        × (r .gate < cleanGate → r .cause ≡ causeAt S x (r .gate))) ⌝ }
 {
-    let g = gates::index_read_conflict(l, conflicts::index_read_conflict(stamps, x));
+    let t = conflicts::index_read_conflict(stamps, x);
+    let g = gates::index_read_conflict(l, t.yes);
     if g < Gate::CLEAN {
-        return g;
+        return Stop {
+            gate: g,
+            cause: Cause::IndexReadAt(t.place),
+        };
     }
-    let g = gates::has_row_lock_conflict(
-        l,
-        conflicts::has_row_lock_conflict(heads, locked, owner, active, x),
-    );
+    let t = conflicts::has_row_lock_conflict(heads, locked, owner, active, x);
+    let g = gates::has_row_lock_conflict(l, t.yes);
     if g < Gate::CLEAN {
-        return g;
+        return Stop {
+            gate: g,
+            cause: Cause::RowLockAt(t.place),
+        };
     }
-    let g = gates::has_serialization_conflict(
-        l,
-        conflicts::has_serialization_conflict(heads, xmin, xmax, x),
-    );
+    let t = conflicts::has_serialization_conflict(heads, xmin, xmax, x);
+    let g = gates::has_serialization_conflict(l, t.yes);
     if g < Gate::CLEAN {
-        return g;
+        return Stop {
+            gate: g,
+            cause: Cause::SerializationAt(t.place),
+        };
     }
-    gates::has_write_base_conflict(l, conflicts::has_write_base_conflict(heads, finals))
+    let t = conflicts::has_write_base_conflict(heads, x);
+    let g = gates::has_write_base_conflict(l, t.yes);
+    Stop {
+        gate: g,
+        cause: Cause::WriteBaseAt(t.place),
+    }
 }
 
 // Steps 15 to 22: the changes.
@@ -141,7 +158,7 @@ fn closing(l: Letters, logged: bool) -> usize
     gates::publish_index_stamps(l)
 }
 
-// The first gate whose test holds, `Gate::CLEAN` if none does.
+// The first gate whose test holds, `Gate::CLEAN` if none does; only at a test's gate is the cause not a busy guard.
 pub fn first_gate<'a>(
     l: Letters,
     logged: bool,
@@ -156,36 +173,35 @@ pub fn first_gate<'a>(
     xmin: &'a [u64; SlotPtr::PLACES],
     xmax: &'a [u64; SlotPtr::PLACES],
     x: Tx,
-    finals: Finals,
-) -> usize
-    ensures { λ g. ⌜ ((S : Store)
+) -> Stop
+    ensures { λ r. ⌜ ((S : Store)
         → Lends S (now (stamps .entry)) (now (heads .entry)) (now (locked .entry)) (now (owner .entry)) (now (active .entry)) (now (xmin .entry))
         (now (xmax .entry))
-        → g ≡ firstTrue (gateTests (letterIn l) logged writing bound poisoned (indexReadConflict S x) (rowLockConflict S x)
-        (serializationConflict S x) (any (baseMoved (S .heads)) (take (finals .count) (finals .at))))) ⌝ }
+        → (r .gate ≡ firstTrue (gateTests (letterIn l) logged writing bound poisoned (indexReadConflict S x) (rowLockConflict S x)
+        (serializationConflict S x) (writeBaseConflict S x)))
+        × (r .cause ≡ causeAt S x (r .gate))) ⌝ }
 {
     let g = opening(l, logged);
     if g < Gate::CLEAN {
-        return g;
+        return Stop {
+            gate: g,
+            cause: Cause::BusyGuard,
+        };
     }
     let g = guarding(l, logged, writing, bound, poisoned);
     if g < Gate::CLEAN {
-        return g;
+        return Stop {
+            gate: g,
+            cause: Cause::BusyGuard,
+        };
     }
-    let g = testing(
-        l,
-        stamps,
-        heads,
-        locked,
-        owner,
-        active,
-        xmin,
-        xmax,
-        x,
-        finals,
-    );
-    if g < Gate::CLEAN {
-        return g;
+    let tested = testing(l, stamps, heads, locked, owner, active, xmin, xmax, x);
+    if tested.gate < Gate::CLEAN {
+        return tested;
     }
-    closing(l, logged)
+    let g = closing(l, logged);
+    Stop {
+        gate: g,
+        cause: Cause::BusyGuard,
+    }
 }

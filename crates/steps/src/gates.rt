@@ -3,7 +3,7 @@
 ghost use mathlib.Core.Path.{_≡_};
 ghost use mathlib.Core.Bool.{not, _&&_, _||_};
 ghost use mathlib.Core.List.{[], _∷_};
-ghost use Rattle.rules.specs.Faults.{F, B, P, X, Q};
+ghost use Rattle.rules.specs.Faults.{F, B, P};
 ghost use Rattle.steps.specs.GateTable.{changesFailed, lockKeysFailed, recordFailed, prepareFailed, indexGuardsFailed, partitionGuardsFailed};
 ghost use Rattle.steps.specs.GateTable.{unloggedCheckFailed, foundPoison, indexReadsFailed, rowLocksFailed, serializationFailed, writeBaseFailed};
 ghost use Rattle.steps.specs.GateTable.{insertFailed, callbackEnded, removeFailed, publishFailed, recycleFailed, finishFailed, stampFailed, cleanGate};

@@ -11,6 +11,7 @@ use Rattle.rules.specs.Calls.{lockedByAnother}
 use Rattle.rules.specs.Puts.{Put, kStripe, kPartition, kInsert, kRemove, kXmax, kHead, kFree, kDrop, kStamp, kPoison}
 use Rattle.rules.specs.Puts.{kDoom, kEnter, kClock, kXmin, kNext, kKey, lastKind, apply, applyAll, abortPuts}
 use Rattle.rules.specs.Tests.{indexReadConflict, rowLockConflict, readConflict, serializationConflict, writeBaseConflict}
+use Rattle.rules.specs.Tests.{indexReadPlace, rowLockPlace, serializationPlace, writeBasePlace}
 use Rattle.rules.specs.Changes.{changes, indexGuards, release, insertions, removals, recycled, recycling, stamping}
 use Rattle.rules.specs.Commit.{strikes, count, abortOrPoison, rollback, indexChangesMade, indexLockKeys, prepareCommitRecord, runPrepare, acquireIndexLocks}
 use Rattle.rules.specs.Commit.{acquirePartitionLocks, ensureUnloggedWriteAllowed, checkNotPoisoned, prepareIndexDestinations, invokeBeforePublish}
@@ -21,10 +22,11 @@ use Rattle.run_laws.specs.OnlyKinds.{only, is-not}
 -- every step of commit is the same with other guards and postings
 pub steps-beside : (g q ps : List ℕ) (n : ℕ) (S : Store) (x : Tx) (logged : Bool) (plan : Schedule)
     → steps (beside g q ps n (S .poisoned) S) x logged plan ≡ steps S x logged plan
-unfolding lockedByAnother abortPuts indexReadConflict rowLockConflict readConflict serializationConflict writeBaseConflict changes
-    indexGuards release insertions removals recycled recycling stamping strikes count abortOrPoison rollback indexChangesMade indexLockKeys
-    prepareCommitRecord runPrepare acquireIndexLocks acquirePartitionLocks ensureUnloggedWriteAllowed checkNotPoisoned prepareIndexDestinations
-    invokeBeforePublish removeIndexSources publishWriteSet recycleNonFinalWrites finishTransaction publishIndexStamps steps
+unfolding lockedByAnother abortPuts indexReadConflict rowLockConflict readConflict serializationConflict writeBaseConflict indexReadPlace
+    rowLockPlace serializationPlace writeBasePlace changes indexGuards release insertions removals recycled recycling stamping strikes
+    count abortOrPoison rollback indexChangesMade indexLockKeys prepareCommitRecord runPrepare acquireIndexLocks acquirePartitionLocks
+    ensureUnloggedWriteAllowed checkNotPoisoned prepareIndexDestinations invokeBeforePublish removeIndexSources publishWriteSet
+    recycleNonFinalWrites finishTransaction publishIndexStamps steps
 steps-beside g q ps n S x logged plan = refl
 
 -- T is S but for guards and postings

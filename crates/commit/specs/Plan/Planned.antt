@@ -74,7 +74,7 @@ pub record Planned (S : Store) (x : Tx) (logged : Bool) (plan : Schedule) (p : P
   pub long : length (S .xmin) ≤ places
 
 -- the final writes read back from their array
-pub finals-taken : (S : Store) (x : Tx) → fit S x ≡ true → take (length (finals x)) (pad writeLimit noWrite (finals x)) ≡ finals x
+finals-taken : (S : Store) (x : Tx) → fit S x ≡ true → take (length (finals x)) (pad writeLimit noWrite (finals x)) ≡ finals x
 finals-taken S x ok =
     let h = finals-fit S x ok in
     rw (min-eq-left h) at (take-pad writeLimit noWrite (finals x)) ∙ take-all writeLimit (finals x) h

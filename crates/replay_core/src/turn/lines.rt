@@ -23,7 +23,9 @@ use records::Store;
 use records::Tx;
 use records::Value;
 use recovery::recover;
+use script::print::More;
 use script::print::Third;
+use script::refusal::more_in;
 use script::refusal::number_of;
 
 // "a refused B keeps its place's transaction"
@@ -41,6 +43,7 @@ pub(crate) fn begin_line(s: Store, x: Tx, plan: Schedule) -> Turned
             plan,
             number,
             third: Third::Num(0),
+            more: More::Nothing,
         };
     }
     let store = a.store;
@@ -50,6 +53,7 @@ pub(crate) fn begin_line(s: Store, x: Tx, plan: Schedule) -> Turned
         plan,
         number,
         third: Third::Num(tx.txid.0),
+        more: More::Nothing,
     }
 }
 
@@ -78,6 +82,7 @@ pub(crate) fn read_line(s: Store, x: Tx, plan: Schedule, row: RowId) -> Turned
             plan,
             number,
             third: Third::Num(0),
+            more: More::Nothing,
         };
     }
     let third = key_or_dash(v);
@@ -87,6 +92,7 @@ pub(crate) fn read_line(s: Store, x: Tx, plan: Schedule, row: RowId) -> Turned
         plan,
         number,
         third,
+        more: More::Nothing,
     }
 }
 
@@ -101,6 +107,7 @@ fn answered(store: Store, tx: Tx, plan: Schedule, why: Refusal, third: u64) -> T
         plan,
         number,
         third: Third::Num(third),
+        more: More::Nothing,
     }
 }
 
@@ -142,19 +149,31 @@ pub(crate) fn commit_line(s: Store, x: Tx, plan: Schedule, logged: bool, cut: Cu
 {
     let a = commit(s, x, logged, plan, cut);
     let why = a.refusal;
-    answered(a.store, a.tx, Schedule::none(), why, a.stores as u64)
+    let number = number_of(why);
+    let more = more_in(why);
+    let store = a.store;
+    let tx = a.tx;
+    Turned {
+        store,
+        tx,
+        plan: Schedule::none(),
+        number,
+        third: Third::Num(a.stores as u64),
+        more,
+    }
 }
 
 pub(crate) fn fault_line(s: Store, x: Tx, plan: Schedule, f: Fault) -> Turned
     ensures { λ r. ⌜ turned r ≡ turn (lineF (f .step) (f .letter) (f .k)) (single s x plan) ⌝ }
 {
-    let more = with_fault(f, plan);
+    let faults = with_fault(f, plan);
     Turned {
         store: s,
         tx: x,
-        plan: more,
+        plan: faults,
         number: 0,
         third: Third::Num(0),
+        more: More::Nothing,
     }
 }
 
@@ -176,5 +195,6 @@ pub(crate) fn bad_line(s: Store, x: Tx, plan: Schedule) -> Turned
         plan,
         number: 2,
         third: Third::Num(0),
+        more: More::Nothing,
     }
 }

@@ -11,7 +11,8 @@ use Rattle.commit_tests.specs.Striking.{letters}
 use Rattle.commit_tests.specs.FinalTurns.{finalsLaid}
 use Rattle.journal.specs.Journal.{Holds}
 use Rattle.steps.specs.Stops.{gateOf, gate-of}
-use Rattle.commit.specs.Planning.{lends-own, laid-count, laid-taken, plan-told, run-pushed}
+use Rattle.steps.specs.Causes.{causeAt}
+use Rattle.commit.specs.Planning.{lends-own, laid-count, plan-told, run-pushed}
 use Rattle.commit.specs.Run.{run-cut, run-whole}
 use borrow.Author.Needs.{needs}
 use Rattle.commit.proofs.run.run.Statement.{statement}
@@ -34,20 +35,21 @@ told a = writing a .before .letters-of .ensures
 laid : (a : tie.After-push-run) → writing a .final-writes .result ≡ finalsLaid (start a .args .x)
 laid a = writing a .final-writes .ensures
 
-module _ (a : tie.After-push-run) (ok : fit (start a .args .t1) (start a .args .x) ≡ true) where
-  -- the gate that was found is the run's
-  gate : let s = start a .args in a .before .before .first-gate .result ≡ gateOf (s .t1) (s .x) (s .logged) (s .plan)
-  gate =
+-- the gate that was found is the run's, and the cause is that of the gate
+module _ (a : tie.After-push-run) where
+  stopped : let s = start a .args in let r = a .before .before .first-gate .result in
+      (r .gate ≡ gateOf (s .t1) (s .x) (s .logged) (s .plan)) × (r .cause ≡ causeAt (s .t1) (s .x) (r .gate))
+  stopped =
       let s = start a in
       let S = s .args .t1 in
       let x = s .args .x in
       let found = a .before .before .first-gate .ensures S (lends-own S (sized S (s .good .0))) in
-      gate-of S x (s .args .logged) (s .args .plan) _ (told a) (ap (ltb 0) (laid-count x (laid a))) (laid-taken S x ok (laid a)) found
+      (gate-of S x (s .args .logged) (s .args .plan) _ (told a) (ap (ltb 0) (laid-count x (laid a))) (found .0), found .1)
 
   -- and the journal holds the stores of the run
-  held : let s = start a .args in s .seen .now ≡ walk (atRows (s .t1 .heads)) (atPlaces (s .t1 .next)) .seen
+  held : let s = start a .args in fit (s .t1) (s .x) ≡ true → s .seen .now ≡ walk (atRows (s .t1 .heads)) (atPlaces (s .t1 .next)) .seen
       → Holds (a .push-run .last .1 .1 .1 .0) (a .push-run .result) (runOf (s .t1) (s .x) (s .logged) (s .plan) .puts)
-  held marks =
+  held ok marks =
       let s = start a in
       let S = s .args .t1 in
       let x = s .args .x in
@@ -56,23 +58,23 @@ module _ (a : tie.After-push-run) (ok : fit (start a .args .t1) (start a .args .
       let z = sized S (s .good .0) in
       let planned = plan-told S x z ok (laid a) marks (planning a .plan-of .ensures) in
       let struck = a .before .before .before .before .before .before .before .before .before .before .before .before .struck-of .ensures in
-      run-pushed S x logged plan z ok planned (struck S x logged plan (told a) refl) gate (a .push-run .ensures S x logged plan)
+      run-pushed S x logged plan z ok planned (struck S x logged plan (told a) refl) (stopped .0) (a .push-run .ensures S x logged plan)
 
 returns : tie.Need-returns
 returns c =
     let a = c .before .before .before .before .before in
     let s = start a .args in
-    let stopped = c .before .before .before .before .stop-at .ensures in
-    λ marks ok. run-cut (s .t1) (s .x) (s .logged) (s .plan) (s .cut) (held a ok marks) stopped (c .before .before .apply .ensures)
+    let made = c .before .before .before .before .stop-at .ensures in
+    λ marks ok. run-cut (s .t1) (s .x) (s .logged) (s .plan) (s .cut) (held a ok marks) made (c .before .before .apply .ensures)
     (c .cut-answer .ensures) (c .before .if1 .taken)
 
 returns-2 : tie.Need-returns-2
 returns-2 c =
     let a = c .before .before .before .before .before in
     let s = start a .args in
-    let stopped = c .before .before .before .before .stop-at .ensures in
-    λ marks ok. run-whole (s .t1) (s .x) (s .logged) (s .plan) (s .cut) (held a ok marks) stopped (c .before .before .apply .ensures)
-    _ (gate a ok) _ (told a) (c .whole-answer .ensures (laid a)) (c .before .if1 .left)
+    let made = c .before .before .before .before .stop-at .ensures in
+    λ marks ok. run-whole (s .t1) (s .x) (s .logged) (s .plan) (s .cut) (held a ok marks) made (c .before .before .apply .ensures)
+    _ (stopped a .0) (stopped a .1) _ (told a) (c .whole-answer .ensures (laid a)) (c .before .if1 .left)
 
 pub run-spec : {M : Type 1} → statement M
 run-spec =

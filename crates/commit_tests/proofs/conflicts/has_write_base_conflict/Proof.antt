@@ -1,12 +1,16 @@
--- `has_write_base_conflict` meets its contract: a final write's base is not the head if one is not from the present place on.
+-- `has_write_base_conflict` meets its contract: it answers what the writes from the present place on do.
+use mathlib.Core.Bool.{and-false}
+use mathlib.Core.Logic.{⊎-elim}
 use borrow.Author.Tests.{eq-eqb, ne-eqb}
 use Rattle.records.specs.Limits.{writeLimit}
 use Rattle.records.specs.Zero.{noWrite}
-use Rattle.rules.specs.Lists.{any}
+use Rattle.rules.specs.Types.{Store}
+use Rattle.rules.specs.Tests.{baseMoved, finalsThat, writeBaseConflict, writeBasePlace}
 use Rattle.fields.specs.Lent.{atRows}
-use Rattle.fields.specs.First.{firstFrom, first-next, first-end, any-first, any-rest}
-use Rattle.commit_tests.specs.Conflicts.{baseMoved}
-use lib.ListN.{length, length-map, take}
+use Rattle.fields.specs.First.{firstFrom, first-next, first-end}
+use Rattle.commit_tests.specs.Conflicts.{tested, answerFrom, answer-here, answer-next, answer-none, write-bases-all}
+use Rattle.commit_tests.specs.FinalTurns.{ofRow}
+use Rattle.fields.proofs.Lengths.{writes-long}
 use mathlib.Core.Path.{_≡_, refl, sym, ap, _∙_}
 use Prim.Native.Nat.{_-_, _≤_, min}
 use native.Mathlib.Omega.{arith}
@@ -15,49 +19,60 @@ use Rattle.commit_tests.proofs.conflicts.has_write_base_conflict.Statem
 use Rattle.commit_tests.proofs.conflicts.has_write_base_conflict.Tie as tie
 
 abbrev Inv-loop : tie.InvT-loop
-Inv-loop heads finals n i₀ i =
-    (i ≤ n)
-    × (n ≡ min (finals .count) writeLimit)
-    × (any (baseMoved (atRows heads)) (firstFrom (finals .count) (finals .at) i) ≡ any (baseMoved (atRows heads)) (take (finals .count) (finals .at)))
+Inv-loop heads x n writes i₀ i =
+    (i ≤ n) × (n ≡ min (x .«write_count») writeLimit) × (writes ≡ x .writes)
+    × ((S : Store) → S .heads ≡ atRows heads
+    → answerFrom i (finalsThat (baseMoved S) (firstFrom (x .«write_count») (x .writes) i)) ≡ tested (writeBaseConflict S x) (writeBasePlace S x))
 
 abbrev μ-loop : tie.MeasureT-loop
-μ-loop heads finals n i₀ i = n - i
+μ-loop heads x n writes i₀ i = n - i
 
 loop-holds : tie.Need-loop-holds Inv-loop μ-loop
 unfolding firstFrom
-loop-holds c = (omega arith, omega arith, refl)
+loop-holds c = (omega arith, omega arith, refl, λ S h. write-bases-all S _)
 
 returns : tie.Need-returns Inv-loop μ-loop
-unfolding baseMoved
+unfolding ofRow
 returns c =
-    let s = c .before .before .before .before .before .before .before .before in
-    let f = s .args .t2 in
-    let long : length (f .at) ≡ writeLimit = sym (length-map (f .at) _) ∙ s .good .1 .0 .1 .1 .0 .1 .0 .1 in
-    let here = first-next (f .count) (f .at) (c .before .before .before .before .before .before .loop .i) noWrite (omega arith) in
-    sym (any-first _ _ _ _ here (rw (← c .before .before .before .head-of .ensures, ne-eqb _ _ (c .if1 .taken))))
-    ∙ c .before .before .before .before .before .before .loop .inv .2
+    let s = c .before .before .before .before .before .before .before .before .before .before .before in
+    let x = s .args .x in
+    let long = writes-long x (s .good .1 .0) in
+    λ S h. sym (answer-here _ _ (ap (finalsThat (baseMoved S)) (first-next (x .«write_count») (x .writes) _ noWrite (omega arith)))
+    (rw (
+      ← c .before .unwritten-from .ensures,
+      c .if2 .taken,
+      h,
+      ← c .before .before .before .before .before .head-of .ensures,
+      ne-eqb _ _ (c .before .before .if1 .taken),
+    )))
+    ∙ c .before .before .before .before .before .before .before .before .loop .inv .3 S h
 
+-- here a later write is of the row, or the base is the head
 loop-again : tie.Need-loop-again Inv-loop μ-loop
-unfolding baseMoved
+unfolding ofRow
 loop-again c =
-    let s = c .before .before .before .before .before .before .before .before in
-    let f = s .args .t2 in
-    let long : length (f .at) ≡ writeLimit = sym (length-map (f .at) _) ∙ s .good .1 .0 .1 .1 .0 .1 .0 .1 in
-    let here = first-next (f .count) (f .at) (c .before .before .before .before .before .before .loop .i) noWrite (omega arith) in (
+    let s = c .before .before .before .before .before .before .before .before .before in
+    let x = s .args .x in
+    let long = writes-long x (s .good .1 .0) in (
       omega arith,
       omega arith,
-      sym (any-rest _ _ _ _ here (rw (← c .before .before .before .head-of .ensures, eq-eqb _ _ (c .if1 .left))))
-          ∙ c .before .before .before .before .before .before .loop .inv .2,
+      refl,
+      λ S h. sym (answer-next _ _ (ap (finalsThat (baseMoved S)) (first-next (x .«write_count») (x .writes) _ noWrite (omega arith)))
+          (⊎-elim
+          (λ w. rw (← w .1 .ensures, w .2 .left))
+          (λ e. rw (h, ← c .before .before .before .head-of .ensures, eq-eqb _ _ (e .left), and-false))
+          (c .if1 .came)))
+          ∙ c .before .before .before .before .before .before .loop .inv .3 S h,
     )
 
 returns-2 : tie.Need-returns-2 Inv-loop μ-loop
 returns-2 c =
-    let s = c .before .before .before in
-    let f = s .args .t2 in
-    let long : length (f .at) ≡ writeLimit = sym (length-map (f .at) _) ∙ s .good .1 .0 .1 .1 .0 .1 .0 .1 in
-    ap (any _) (sym (first-end (f .count) (f .at) _ (omega arith))) ∙ c .before .loop .inv .2
+    let s = c .before .before .before .before in
+    let x = s .args .x in
+    let long = writes-long x (s .good .1 .0) in
+    λ S h. sym (answer-none _ _ (ap (finalsThat (baseMoved S)) (first-end (x .«write_count») (x .writes) _ (omega arith)))) ∙ c .before .loop .inv .3 S h
 
 pub has-write-base-conflict-spec : {M : Type 1} → statement M
 has-write-base-conflict-spec =
     tie.close (tie.spec Inv-loop μ-loop (λ c κs. search needs) loop-holds (λ c. search needs) (λ c. search needs) (λ c κs. search needs)
-    returns (λ c. search needs) (λ c. search needs) loop-again returns-2)
+    (λ c. search needs) (λ c κs. search needs) returns (λ c. search needs) (λ c. search needs) loop-again returns-2)
