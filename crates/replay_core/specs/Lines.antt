@@ -62,12 +62,11 @@ module _ (S : Store) (x : Tx) (plan : Schedule) where
   unfolding turn
   aborted e = λ i. left (e i .store) (e i .tx) plan (numberOf (e i .refusal)) (num 0)
 
-  pub committed : (logged : Bool) (cut : Cut) {a : Answer} {none : Schedule} {n : ℕ} {m : More} → a ≡ commit S x logged plan cut
-      → n ≡ numberOf (a .refusal) → m ≡ moreIn (a .refusal) → none ≡ noFaults
-      → leaves (a .store) (a .tx) none (tells n (num (a .stores)) m) ≡ turn (lineC 0 logged cut) (single S x plan)
+  pub committed : (logged : Bool) (cut : Cut) {a : Answer} {none : Schedule} {m : More} → a ≡ commit S x logged plan cut → m ≡ moreIn (a .refusal)
+      → none ≡ noFaults → leaves (a .store) (a .tx) none (tells (numberOf (a .refusal)) (num (a .stores)) m) ≡ turn (lineC 0 logged cut) (single S x plan)
   unfolding turn
-  committed logged cut {a} e number more z =
-      (λ i. leaves (a .store) (a .tx) (z i) (tells (number i) (num (a .stores)) (more i)))
+  committed logged cut {a} e more z =
+      (λ i. leaves (a .store) (a .tx) (z i) (tells (numberOf (a .refusal)) (num (a .stores)) (more i)))
       ∙ (λ i. leaves (e i .store) (e i .tx) noFaults (saysOfCommit (e i .refusal) (e i .stores)))
 
   pub recovered : {a : Mended} → a ≡ recover S → left (a .store) x plan (numberOf (a .refusal)) (num 0) ≡ turn lineV (single S x plan)

@@ -3,8 +3,8 @@
 ghost use mathlib.Core.Path.{_≡_};
 ghost use Rattle.rules.specs.Numbers.{numberOf};
 ghost use Rattle.rules.specs.Replay.{lineB, lineR, lineW, lineL, lineK, lineA, lineC, lineF, lineV, lineBad, num, valueThird, turn};
-ghost use Rattle.script.specs.Print.{thirdOf};
-ghost use Rattle.replay_core.specs.Turn.{single, left, turned};
+ghost use Rattle.script.specs.Print.{thirdOf, moreOf, tells};
+ghost use Rattle.replay_core.specs.Turn.{single, leaves, turned};
 use super::Turned;
 use super::fault::with_fault;
 use calls::abort::abort;
@@ -97,8 +97,8 @@ pub(crate) fn read_line(s: Store, x: Tx, plan: Schedule, row: RowId) -> Turned
 }
 
 // A line that is answered with its call's number.
-fn answered(store: Store, tx: Tx, plan: Schedule, why: Refusal, third: u64) -> Turned
-    ensures { λ r. ⌜ turned r ≡ left store tx plan (numberOf why) (num third) ⌝ }
+fn answered(store: Store, tx: Tx, plan: Schedule, why: Refusal, third: u64, more: More) -> Turned
+    ensures { λ r. ⌜ turned r ≡ leaves store tx plan (tells (numberOf why) (num third) (moreOf more)) ⌝ }
 {
     let number = number_of(why);
     Turned {
@@ -107,7 +107,7 @@ fn answered(store: Store, tx: Tx, plan: Schedule, why: Refusal, third: u64) -> T
         plan,
         number,
         third: Third::Num(third),
-        more: More::Nothing,
+        more,
     }
 }
 
@@ -116,7 +116,7 @@ pub(crate) fn write_line(s: Store, x: Tx, plan: Schedule, row: RowId, v: Value) 
 {
     let a = write(s, x, row, v);
     let why = a.refusal;
-    answered(a.store, a.tx, plan, why, a.slot.0 as u64)
+    answered(a.store, a.tx, plan, why, a.slot.0 as u64, More::Nothing)
 }
 
 pub(crate) fn lookup_line(s: Store, x: Tx, plan: Schedule, k: u32) -> Turned
@@ -124,7 +124,7 @@ pub(crate) fn lookup_line(s: Store, x: Tx, plan: Schedule, k: u32) -> Turned
 {
     let a = lookup(s, x, k);
     let why = a.refusal;
-    answered(s, a.tx, plan, why, a.count as u64)
+    answered(s, a.tx, plan, why, a.count as u64, More::Nothing)
 }
 
 pub(crate) fn lock_line(s: Store, x: Tx, plan: Schedule, row: RowId) -> Turned
@@ -132,7 +132,7 @@ pub(crate) fn lock_line(s: Store, x: Tx, plan: Schedule, row: RowId) -> Turned
 {
     let a = row_lock(s, x, row);
     let why = a.refusal;
-    answered(a.store, a.tx, plan, why, 0)
+    answered(a.store, a.tx, plan, why, 0, More::Nothing)
 }
 
 pub(crate) fn abort_line(s: Store, x: Tx, plan: Schedule) -> Turned
@@ -140,7 +140,7 @@ pub(crate) fn abort_line(s: Store, x: Tx, plan: Schedule) -> Turned
 {
     let a = abort(s, x);
     let why = a.refusal;
-    answered(a.store, a.tx, plan, why, 0)
+    answered(a.store, a.tx, plan, why, 0, More::Nothing)
 }
 
 // "the next C, which judges it and uses it up whatever it answers"
@@ -149,18 +149,8 @@ pub(crate) fn commit_line(s: Store, x: Tx, plan: Schedule, logged: bool, cut: Cu
 {
     let a = commit(s, x, logged, plan, cut);
     let why = a.refusal;
-    let number = number_of(why);
     let more = more_in(why);
-    let store = a.store;
-    let tx = a.tx;
-    Turned {
-        store,
-        tx,
-        plan: Schedule::none(),
-        number,
-        third: Third::Num(a.stores as u64),
-        more,
-    }
+    answered(a.store, a.tx, Schedule::none(), why, a.stores as u64, more)
 }
 
 pub(crate) fn fault_line(s: Store, x: Tx, plan: Schedule, f: Fault) -> Turned
@@ -182,7 +172,7 @@ pub(crate) fn recover_line(s: Store, x: Tx, plan: Schedule) -> Turned
 {
     let a = recover(s);
     let why = a.refusal;
-    answered(a.store, x, plan, why, 0)
+    answered(a.store, x, plan, why, 0, More::Nothing)
 }
 
 // "A line that isn't one of these forms is answered 2"
