@@ -22,5 +22,6 @@ pub mod Walk
 pub mod Sound
 pub mod Chained
 pub mod Check
--- the tests of admission, taken apart
+-- the refusals, taken apart; the tests of admission
+pub mod Refusals
 pub mod TestParts

@@ -9,6 +9,7 @@ use Rattle.rules.specs.Types.{Fate, Refusal, Done, NotResting, Unfit, NotActive
 use Rattle.rules.specs.Types.{BoundDurably, FoundPoisoned, InsertFailed, CallbackFailed, CallbackPanicked, RemoveFailed, PublishFailed}
 use Rattle.rules.specs.Types.{RecycleFailed, FinishFailed, StampFailed, CutOff, CleanupFailed, NotRepairable, ActiveFull, ClockAtEnd}
 use Rattle.rules.specs.Types.{RowTooHigh, ReadsFull, WritesFull, SlotsFull, LockedByAnother, NoHead, ImpossibleMinute}
+use Rattle.basic_laws.specs.Refusals.{Sort, done, seven, plain, sort}
 use Rattle.rules.specs.Numbers.{numberOf, fateIn, nothing, cause, moreIn, testNamed, placeNamed}
 
 -- the refusals in the order of the paper's table; document 02's after them
@@ -43,33 +44,9 @@ places-say p = refl
 
 -- "on 7 only"
 pub only-seven : (why : Refusal) → numberOf why ≢ 7 → moreIn why ≡ nothing
-only-seven Done h = refl
-only-seven (NotResting f) h = refl
-only-seven (Unfit f) h = refl
-only-seven (NotActive f) h = refl
-only-seven (StepFailed f) h = refl
-only-seven (PrepareFailed f) h = refl
-only-seven (PreparePanicked f) h = refl
-only-seven (Conflict c f) h = absurd (h refl)
-only-seven (BoundDurably f) h = refl
-only-seven (FoundPoisoned f) h = refl
-only-seven (InsertFailed f) h = refl
-only-seven (CallbackFailed f) h = refl
-only-seven (CallbackPanicked f) h = refl
-only-seven (RemoveFailed f) h = refl
-only-seven (PublishFailed f) h = refl
-only-seven (RecycleFailed f) h = refl
-only-seven (FinishFailed f) h = refl
-only-seven (StampFailed f) h = refl
-only-seven (CutOff f) h = refl
-only-seven (CleanupFailed f) h = refl
-only-seven (NotRepairable f) h = refl
-only-seven (ActiveFull f) h = refl
-only-seven (ClockAtEnd f) h = refl
-only-seven (RowTooHigh f) h = refl
-only-seven (ReadsFull f) h = refl
-only-seven (WritesFull f) h = refl
-only-seven (SlotsFull f) h = refl
-only-seven (LockedByAnother f) h = refl
-only-seven (NoHead f) h = refl
-only-seven (ImpossibleMinute f) h = refl
+only-seven why = told (sort why)
+  where
+    told : {why : Refusal} → Sort why → numberOf why ≢ 7 → moreIn why ≡ nothing
+    told done h = refl
+    told (seven c f) h = absurd (h refl)
+    told (plain d m) h = m
