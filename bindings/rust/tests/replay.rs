@@ -210,7 +210,10 @@ fn an_impossible_minute_is_refused() {
     let told: Vec<_> = answers(script)
         .map(|answer| (answer.number, answer.value))
         .collect();
-    assert_eq!(told[1..], [(31, Some(0)), (31, Some(0)), (0, Some(1)), (0, Some(1))]);
+    assert_eq!(
+        told[1..],
+        [(31, Some(0)), (31, Some(0)), (0, Some(1)), (0, Some(1))]
+    );
 }
 
 /// Each number's texts are those of the page, cell by cell.

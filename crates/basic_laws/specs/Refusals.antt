@@ -8,39 +8,39 @@ use Rattle.rules.specs.Types.{CleanupFailed, NotRepairable, ActiveFull, ClockAt
 use Rattle.rules.specs.Types.{ImpossibleMinute}
 use Rattle.rules.specs.Numbers.{nothing, moreIn, isDone}
 
-pub data Sort : Refusal → Type 0 where
-  done : Sort Done
-  seven : (c : Cause) (f : Fate) → Sort (Conflict c f)
-  plain : {why : Refusal} → isDone why ≡ false → moreIn why ≡ nothing → Sort why
+pub data Case : Refusal → Type 0 where
+  done : Case Done
+  seven : (c : Cause) (f : Fate) → Case (Conflict c f)
+  plain : {why : Refusal} → isDone why ≡ false → moreIn why ≡ nothing → Case why
 
-pub sort : (why : Refusal) → Sort why
-sort Done = done
-sort (NotResting f) = plain refl refl
-sort (Unfit f) = plain refl refl
-sort (NotActive f) = plain refl refl
-sort (StepFailed f) = plain refl refl
-sort (PrepareFailed f) = plain refl refl
-sort (PreparePanicked f) = plain refl refl
-sort (Conflict c f) = seven c f
-sort (BoundDurably f) = plain refl refl
-sort (FoundPoisoned f) = plain refl refl
-sort (InsertFailed f) = plain refl refl
-sort (CallbackFailed f) = plain refl refl
-sort (CallbackPanicked f) = plain refl refl
-sort (RemoveFailed f) = plain refl refl
-sort (PublishFailed f) = plain refl refl
-sort (RecycleFailed f) = plain refl refl
-sort (FinishFailed f) = plain refl refl
-sort (StampFailed f) = plain refl refl
-sort (CutOff f) = plain refl refl
-sort (CleanupFailed f) = plain refl refl
-sort (NotRepairable f) = plain refl refl
-sort (ActiveFull f) = plain refl refl
-sort (ClockAtEnd f) = plain refl refl
-sort (RowTooHigh f) = plain refl refl
-sort (ReadsFull f) = plain refl refl
-sort (WritesFull f) = plain refl refl
-sort (SlotsFull f) = plain refl refl
-sort (LockedByAnother f) = plain refl refl
-sort (NoHead f) = plain refl refl
-sort (ImpossibleMinute f) = plain refl refl
+pub case-of : (why : Refusal) → Case why
+case-of Done = done
+case-of (NotResting f) = plain refl refl
+case-of (Unfit f) = plain refl refl
+case-of (NotActive f) = plain refl refl
+case-of (StepFailed f) = plain refl refl
+case-of (PrepareFailed f) = plain refl refl
+case-of (PreparePanicked f) = plain refl refl
+case-of (Conflict c f) = seven c f
+case-of (BoundDurably f) = plain refl refl
+case-of (FoundPoisoned f) = plain refl refl
+case-of (InsertFailed f) = plain refl refl
+case-of (CallbackFailed f) = plain refl refl
+case-of (CallbackPanicked f) = plain refl refl
+case-of (RemoveFailed f) = plain refl refl
+case-of (PublishFailed f) = plain refl refl
+case-of (RecycleFailed f) = plain refl refl
+case-of (FinishFailed f) = plain refl refl
+case-of (StampFailed f) = plain refl refl
+case-of (CutOff f) = plain refl refl
+case-of (CleanupFailed f) = plain refl refl
+case-of (NotRepairable f) = plain refl refl
+case-of (ActiveFull f) = plain refl refl
+case-of (ClockAtEnd f) = plain refl refl
+case-of (RowTooHigh f) = plain refl refl
+case-of (ReadsFull f) = plain refl refl
+case-of (WritesFull f) = plain refl refl
+case-of (SlotsFull f) = plain refl refl
+case-of (LockedByAnother f) = plain refl refl
+case-of (NoHead f) = plain refl refl
+case-of (ImpossibleMinute f) = plain refl refl

@@ -17,7 +17,7 @@ use Rattle.rules.specs.Answer.{uncut, commit}
 use Rattle.basic_laws.specs.Cases.{by, clash, or-left, or-right}
 use Rattle.run_laws.specs.FourTests.{either}
 use Rattle.run_laws.specs.Entries.{index-read-test, row-lock-test, serialization-test, write-base-test}
-use Rattle.run_laws.specs.Outcome.{Busy as struckBusy, struck, unprepared, panicked, busy, conflict, unhealthy, Yes, yes-11, yes-12, yes-13, yes-14, aborting}
+use Rattle.run_laws.specs.Outcome.{guardBusy, struck, unprepared, panicked, busy, conflict, unhealthy, Yes, yes-11, yes-12, yes-13, yes-14, aborting}
 use Rattle.run_laws.specs.Outcome.{Outcome, done, stays, aborts, uninserted, uncalled, spoils, unstamped, outcome}
 use Rattle.run_laws.specs.FirstRows.{admitted, every-commit, whole, success, stay-not, spoil-not, called-not, no-fault, pick-7}
 use Rattle.run_laws.specs.Gates.{Gate, first, gates, clean, run-gates}
@@ -122,13 +122,13 @@ neither-seven false failed kind f a b = b
 
 module _ (S : Store) (x : Tx) (logged : Bool) (plan : Schedule) where
   -- B strikes at 7 or at 8, in words
-  busy-says : (struckBusy S x logged plan ≡ true) ↔ Busy S x logged plan
+  busy-says : (guardBusy S x logged plan ≡ true) ↔ Busy S x logged plan
   busy-says = either _ _ Iff·rfl Iff·rfl
 
   -- a 7: of a busy guard, or of the first test that says yes; its abort failed or not
   data Seven : Refusal → Type 0 where
-    guard : (f : Fate) → struckBusy S x logged plan ≡ true → Seven (Conflict BusyGuard f)
-    test : {c : Cause} (f : Fate) → struckBusy S x logged plan ≡ false → Yes S x logged plan c → Seven (Conflict c f)
+    guard : (f : Fate) → guardBusy S x logged plan ≡ true → Seven (Conflict BusyGuard f)
+    test : {c : Cause} (f : Fate) → guardBusy S x logged plan ≡ false → Yes S x logged plan c → Seven (Conflict c f)
 
   -- of the ways in which a run ends, two answer 7
   ended : (n : ℕ) (ps : List Put) (d : End) → Outcome S x logged plan n ps d → isSeven (numberOf (d .refusal)) ≡ true → Seven (d .refusal)
@@ -167,7 +167,7 @@ module _ (S : Store) (x : Tx) (logged : Bool) (plan : Schedule) where
   )
 
   -- where no guard is busy
-  tells-first : {why : Refusal} → Seven why → struckBusy S x logged plan ≡ false → (t p : ℕ) → Tells why t p ↔ First S x t p
+  tells-first : {why : Refusal} → Seven why → guardBusy S x logged plan ≡ false → (t p : ℕ) → Tells why t p ↔ First S x t p
   tells-first (guard f h) free t p = clash h free
   tells-first (test {c} f h y) free t p =
       let first = yes-first S x y in (
@@ -181,8 +181,8 @@ module _ (S : Store) (x : Tx) (logged : Bool) (plan : Schedule) where
       let r = tells-first (test f h y) h t p in (λ told. (λ b. clash (busy-says .1 b) h, r .0 told), λ s. r .1 (s .1))
 
   -- in a schedule without a fault none is
-  unstruck : plan .count ≡ 0 → struckBusy S x logged plan ≡ false
-  unstruck none = by (struckBusy S x logged plan)
+  unstruck : plan .count ≡ 0 → guardBusy S x logged plan ≡ false
+  unstruck none = by (guardBusy S x logged plan)
       (λ h. absurd (⊎-elim
       (λ e. no-fault S x logged plan none (struck S x logged plan 7 B refl e))
       (λ e. no-fault S x logged plan none (struck S x logged plan 8 B refl e))

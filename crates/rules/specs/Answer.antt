@@ -88,12 +88,15 @@ answer S x logged r (After n) = cond (ltb n (length (r .puts))) (cutOff S r n) (
 abbrev pub unchanged : Store → Tx → Refusal → Answer
 unchanged S x why = record { refusal = why; «record» = noRecord; store = S; tx = x; events = noEvents; stores = 0 }
 
--- "Commit tries 1, 2, 3, then the steps."
-unfoldable pub commit : Store → Tx → Bool → Schedule → Cut → Answer
-commit S x logged plan cut =
+-- "Commit tries 1, 2, 3, then the steps.", of which r is the run
+abbrev pub commitBy : Run → Store → Tx → Bool → Schedule → Cut → Answer
+commitBy r S x logged plan cut =
     let why = tries (
     refuse (not (resting S)) (NotResting Open)
     ∷ refuse (not (fit S x && scheduleFit plan)) (Unfit Open)
     ∷ refuse (not (memb (x .txid .0) (activeTxids (S .active)))) (NotActive Closed)
     ∷ []) in
-    cond (isDone why) (answer S x logged (runOf S x logged plan) cut) (unchanged S x why)
+    cond (isDone why) (answer S x logged r cut) (unchanged S x why)
+
+unfoldable pub commit : Store → Tx → Bool → Schedule → Cut → Answer
+commit S x logged plan cut = commitBy (runOf S x logged plan) S x logged plan cut

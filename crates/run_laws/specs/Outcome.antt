@@ -73,8 +73,8 @@ module _ (S : Store) (x : Tx) (logged : Bool) (plan : Schedule) where
     durable : (unloggedWrites S x logged plan && S .bound) ≡ true → Stay BoundDurably
 
   -- B strikes at 7 or 8
-  abbrev pub Busy : Bool
-  Busy = strikes S x logged plan 7 B || strikes S x logged plan 8 B
+  abbrev pub guardBusy : Bool
+  guardBusy = strikes S x logged plan 7 B || strikes S x logged plan 8 B
 
   -- 11 to 14: the first test that says yes, and the cause that it gives
   pub data Yes : Cause → Type 0 where
@@ -95,8 +95,8 @@ module _ (S : Store) (x : Tx) (logged : Bool) (plan : Schedule) where
   pub data Abort : (Fate → Refusal) → (Fate → Refusal) → Bool → Bool → Type 0 where
     unprepared : Struck → Abort PrepareFailed CleanupFailed false true
     panicked : Struck → Abort PreparePanicked PreparePanicked false true
-    busy : Busy ≡ true → Struck → Abort (Conflict BusyGuard) (Conflict BusyGuard) false false
-    conflict : {c : Cause} → Busy ≡ false → Yes c → Abort (Conflict c) (Conflict c) false false
+    busy : guardBusy ≡ true → Struck → Abort (Conflict BusyGuard) (Conflict BusyGuard) false false
+    conflict : {c : Cause} → guardBusy ≡ false → Yes c → Abort (Conflict c) (Conflict c) false false
     unhealthy : (fails S x logged plan 10 || S .poisoned) ≡ true → Abort FoundPoisoned CleanupFailed (not (fails S x logged plan 10)) false
 
   -- what holds once the tests are passed

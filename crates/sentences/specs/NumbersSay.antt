@@ -9,7 +9,7 @@ use Rattle.rules.specs.Types.{Fate, Refusal, Done, NotResting, Unfit, NotActive
 use Rattle.rules.specs.Types.{BoundDurably, FoundPoisoned, InsertFailed, CallbackFailed, CallbackPanicked, RemoveFailed, PublishFailed}
 use Rattle.rules.specs.Types.{RecycleFailed, FinishFailed, StampFailed, CutOff, CleanupFailed, NotRepairable, ActiveFull, ClockAtEnd}
 use Rattle.rules.specs.Types.{RowTooHigh, ReadsFull, WritesFull, SlotsFull, LockedByAnother, NoHead, ImpossibleMinute}
-use Rattle.basic_laws.specs.Refusals.{Sort, done, seven, plain, sort}
+use Rattle.basic_laws.specs.Refusals.{Case, done, seven, plain, case-of}
 use Rattle.rules.specs.Numbers.{numberOf, fateIn, nothing, cause, moreIn, testNamed, placeNamed}
 
 -- the refusals in the order of the paper's table; document 02's after them
@@ -44,9 +44,9 @@ places-say p = refl
 
 -- "on 7 only"
 pub only-seven : (why : Refusal) → numberOf why ≢ 7 → moreIn why ≡ nothing
-only-seven why = told (sort why)
+only-seven why = told (case-of why)
   where
-    told : {why : Refusal} → Sort why → numberOf why ≢ 7 → moreIn why ≡ nothing
+    told : {why : Refusal} → Case why → numberOf why ≢ 7 → moreIn why ≡ nothing
     told done h = refl
     told (seven c f) h = absurd (h refl)
     told (plain d m) h = m

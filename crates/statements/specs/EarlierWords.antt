@@ -1,25 +1,20 @@
 -- The replay as it stood before document 02's wish 4, when a 7 told nothing and a line had three fields. What is not written here was as it is today.
 use mathlib.Core.Path.{_≡_}
-use mathlib.Core.Bool.{Bool, not, cond, _&&_}
+use mathlib.Core.Bool.{Bool}
 use mathlib.Core.List.{List, [], _∷_, map}
 use Prim.Native.Nat.{ℕ, suc}
 use lib.ListN.{set, take}
 use Rattle.records.specs.Limits.{digits64}
 use Rattle.records.specs.Zero.{noFaults}
-use Rattle.rules.specs.Lists.{memb}
-use Rattle.rules.specs.Types.{Store, Tx, Schedule, Cut, Answer, Open, Closed, NotResting, Unfit, NotActive, BusyGuard}
-use Rattle.rules.specs.Store.{activeTxids}
-use Rattle.rules.specs.Admitted.{resting}
-use Rattle.rules.specs.Fit.{fit}
-use Rattle.rules.specs.Faults.{scheduleFit}
-use Rattle.rules.specs.Numbers.{numberOf, refuse, tries, isDone}
+use Rattle.rules.specs.Types.{Store, Tx, Schedule, Cut, Answer, BusyGuard}
+use Rattle.rules.specs.Numbers.{numberOf}
 use Rattle.rules.specs.Tests.{indexReadConflict, rowLockConflict, serializationConflict, writeBaseConflict}
 use Rattle.rules.specs.Changes.{release}
 use Rattle.rules.specs.Commit.{Step, goes, Run, run, committed, test, ensureOpen, finalWriteIndices, indexChangesMade, indexLockKeys}
 use Rattle.rules.specs.Commit.{prepareCommitRecord, runPrepare, acquireIndexLocks, acquirePartitionLocks, ensureUnloggedWriteAllowed}
 use Rattle.rules.specs.Commit.{checkNotPoisoned, prepareIndexDestinations, invokeBeforePublish, removeIndexSources, publishWriteSet}
 use Rattle.rules.specs.Commit.{recycleNonFinalWrites, flushLocalRecycleCaches, finishTransaction, publishIndexStamps}
-use Rattle.rules.specs.Answer.{answer, unchanged}
+use Rattle.rules.specs.Answer.{commitBy}
 use Rattle.rules.specs.Replay.{Line, lineB, lineR, lineW, lineL, lineK, lineA, lineC, lineF, lineV, lineBad, num, Out, Desk, Turn, start, txAt, says, turn}
 use Rattle.rules.specs.Script.{Bytes, split, linesIn, parse, decimal, third, replayText}
 
@@ -59,13 +54,7 @@ unfoldable pub runThen : Store → Tx → Bool → Schedule → Run
 runThen S x logged plan = run (committed x) (stepsThen S x logged plan)
 
 unfoldable pub commitThen : Store → Tx → Bool → Schedule → Cut → Answer
-commitThen S x logged plan cut =
-    let why = tries (
-    refuse (not (resting S)) (NotResting Open)
-    ∷ refuse (not (fit S x && scheduleFit plan)) (Unfit Open)
-    ∷ refuse (not (memb (x .txid .0) (activeTxids (S .active)))) (NotActive Closed)
-    ∷ []) in
-    cond (isDone why) (answer S x logged (runThen S x logged plan) cut) (unchanged S x why)
+commitThen S x logged plan cut = commitBy (runThen S x logged plan) S x logged plan cut
 
 -- no other line answers a 7
 unfoldable pub turnThen : Line → Desk → Turn

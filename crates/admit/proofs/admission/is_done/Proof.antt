@@ -8,13 +8,13 @@ use types.Run.{miss}
 use Rattle.records.proofs.Refusal as T
 use Rattle.rules.specs.Types.{Refusal}
 use Rattle.rules.specs.Numbers.{isDone}
-use Rattle.basic_laws.specs.Refusals.{Sort, done, seven, plain, sort}
+use Rattle.basic_laws.specs.Refusals.{Case, done, seven, plain, case-of}
 use borrow.Author.Needs.{needs}
 use Rattle.admit.proofs.admission.is_done.Statement.{statement}
 use Rattle.admit.proofs.admission.is_done.Tie as tie
 
 -- any other tag is not Done
-other : {w : Refusal} → Sort w → (tagOf T.the-type w ≡ 0 → ⊥) → false ≡ isDone w
+other : {w : Refusal} → Case w → (tagOf T.the-type w ≡ 0 → ⊥) → false ≡ isDone w
 other done n = absurd (n refl)
 other (seven c f) n = refl
 other (plain d m) n = sym d
@@ -27,7 +27,7 @@ returns : tie.Need-returns
 returns c = rw (c .enum-told .given .1)
 
 returns-2 : tie.Need-returns-2
-returns-2 c = other (sort (c .before .args .why)) (λ e. miss others 0 (tt {0}) (rw e at (c .match .keys2)))
+returns-2 c = other (case-of (c .before .args .why)) (λ e. miss others 0 (tt {0}) (rw e at (c .match .keys2)))
 
 pub is-done-spec : {M : Type 1} → statement M
 is-done-spec = tie.close (tie.spec (λ c. search needs) returns returns-2)

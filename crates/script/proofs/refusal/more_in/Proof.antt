@@ -7,13 +7,13 @@ use types.Run.{miss}
 use Rattle.records.proofs.Refusal as T
 use Rattle.rules.specs.Types.{Refusal}
 use Rattle.rules.specs.Numbers.{nothing, moreIn}
-use Rattle.basic_laws.specs.Refusals.{Sort, done, seven, plain, sort}
+use Rattle.basic_laws.specs.Refusals.{Case, done, seven, plain, case-of}
 use borrow.Author.Needs.{needs}
 use Rattle.script.proofs.refusal.more_in.Statement.{statement}
 use Rattle.script.proofs.refusal.more_in.Tie as tie
 
 -- any other tag is no conflict
-other : {w : Refusal} → Sort w → (tagOf T.the-type w ≡ 7 → ⊥) → nothing ≡ moreIn w
+other : {w : Refusal} → Case w → (tagOf T.the-type w ≡ 7 → ⊥) → nothing ≡ moreIn w
 other done n = refl
 other (seven c f) n = absurd (n refl)
 other (plain d m) n = sym m
@@ -26,7 +26,7 @@ returns : tie.Need-returns
 returns c = rw (c .before .why .given .1)
 
 returns-2 : tie.Need-returns-2
-returns-2 c = other (sort (c .before .args .why)) (λ e. miss others 7 (tt {0}) (rw e at (c .match .keys2)))
+returns-2 c = other (case-of (c .before .args .why)) (λ e. miss others 7 (tt {0}) (rw e at (c .match .keys2)))
 
 pub more-in-spec : {M : Type 1} → statement M
 more-in-spec = tie.close (tie.spec (λ c. search needs) returns returns-2)
