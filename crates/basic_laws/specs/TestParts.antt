@@ -3,12 +3,12 @@ use mathlib.Core.Path.{_≡_}
 use mathlib.Core.Bool.{true, not, _&&_, _||_}
 use mathlib.Core.List.{List}
 use Prim.Native.Nat.{ℕ}
-use lib.ListN.{getD}
+use lib.ListN.{getD, drop}
 use lib.Dec.{eqb, ltb, leb}
-use Rattle.records.specs.Limits.{rows, slots, places, lastMinute}
+use Rattle.records.specs.Limits.{rows, slots, places, postingLimit, keyEnd, lastMinute}
 use Rattle.rules.specs.Types.{Store, Tx, Write}
-use Rattle.rules.specs.Lists.{all, eachOr, same, allZero, isZero, nonzero, nonFalling}
-use Rattle.rules.specs.Store.{used, usedSlots, slotsInForm, postingsOf, postingsInForm, activeInForm}
+use Rattle.rules.specs.Lists.{all, eachOr, same, allZero, isZero, nonzero, rising, nonFalling}
+use Rattle.rules.specs.Store.{used, usedSlots, slotsInForm, posting, postingsOf, postingsInForm, activeInForm}
 use Rattle.rules.specs.Transaction.{writesOf, readsOf, indexReadsOf, savepointsOf}
 use Rattle.rules.specs.Chains.{chainFrom, walk, on}
 use Rattle.rules.specs.Admitted.{finished, chainOk, offOk, repairable, headPostings, restsAt, resting}
@@ -87,6 +87,17 @@ parts-repairable S P =
     (cons-every _ _ (P .listed)
     (cons-every _ _ (P .below)
     (cons-every _ _ (P .doom) (cons-every _ _ (P .walked) (cons-every _ _ (P .led) (cons-every _ _ (P .versions) (cons-every _ _ (P .off) every-none))))))))
+
+-- postings in their form
+pub record PostingsInForm (S : Store) : Type 0 where
+  pub count : leb (S .«posting_count») postingLimit ≡ true
+  pub rise : rising 0 (postingsOf S) ≡ true
+  pub keyed : all (λ c. ltb c (posting keyEnd 0)) (postingsOf S) ≡ true
+  pub packed : allZero (drop (S .«posting_count») (S .postings)) ≡ true
+
+pub postings-parts : (S : Store) → postingsInForm S ≡ true → PostingsInForm S
+unfolding postingsInForm
+postings-parts S h = let p = every-each _ h in record { count = p .0; rise = p .1 .0; keyed = p .1 .1 .0; packed = p .1 .1 .1 .0 }
 
 -- a resting store
 pub record Resting (S : Store) : Type 0 where

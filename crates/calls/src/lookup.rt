@@ -8,7 +8,7 @@ ghost use Rattle.rules.specs.Calls.{lookup};
 ghost use Rattle.fields.specs.Lent.{atStripes};
 ghost use Rattle.recording.specs.ReadList.{laid};
 ghost use Rattle.calls.specs.Refused.{unless};
-ghost use Rattle.calls.specs.LookupAnswer.{lookupTries, looked};
+ghost use Rattle.calls.specs.LookupAnswer.{minuteTries, noneFound, looked};
 use super::refusal::healthy;
 use super::refusal::impossible;
 use admit::admission::admitted;
@@ -30,9 +30,9 @@ use records::Store;
 use records::Tx;
 use records::Value;
 
-// Numbers 31 and 24, if nothing was refused before.
-fn lookup_refusal(first: Refusal, k: u32, over: bool) -> Refusal
-    ensures { λ q. ⌜ q ≡ unless first (lookupTries k over) ⌝ }
+// Number 31, if nothing was refused before.
+fn lookup_refusal(first: Refusal, k: u32) -> Refusal
+    ensures { λ q. ⌜ q ≡ unless first (minuteTries k) ⌝ }
 {
     if !is_done(first) {
         return first;
@@ -40,10 +40,19 @@ fn lookup_refusal(first: Refusal, k: u32, over: bool) -> Refusal
     if impossible(Value::Key(k)) {
         return Refusal::ImpossibleMinute(Fate::Open);
     }
-    if over {
-        return Refusal::ReadsFull(Fate::Open);
-    }
     Refusal::Done
+}
+
+// Refused: no row is found, and the transaction is as it was.
+fn none_found(why: Refusal, x: Tx) -> Found
+    ensures { λ q. ⌜ q ≡ noneFound x why ⌝ }
+{
+    Found {
+        refusal: why,
+        rows: [RowId(0); RowId::ROWS],
+        count: 0,
+        tx: x,
+    }
 }
 
 // The transaction with its reads those of the list, and the stamp of the key's stripe recorded.
@@ -57,28 +66,27 @@ fn looked(stamps: &[u64; Store::STRIPES], x: Tx, l: ReadList, k: u32) -> Tx
     with_index_reads(y, q, conflict)
 }
 
-// The rows whose read value is the key, rising; every candidate is recorded as by a read.
+// The rows whose read value is the key, rising; every candidate is recorded as by a read. The postings are searched once the store is known to rest,
+// unpoisoned, so they rise.
 pub fn lookup(s: Store, x: Tx, k: u32) -> Found
     ensures { λ q. ⌜ q ≡ lookup s x k ⌝ }
 {
-    let marks = candidates(&s.postings, s.posting_count, x, k);
-    let l = record_marked(&s.heads, &s.next, &s.xmin, &marks, x);
     let tried = admitted(s, x, true);
     let first = healthy(tried, s.poisoned);
-    let why = lookup_refusal(first, k, l.over);
+    let why = lookup_refusal(first, k);
     if !is_done(why) {
-        return Found {
-            refusal: why,
-            rows: [RowId(0); RowId::ROWS],
-            count: 0,
-            tx: x,
-        };
+        return none_found(why, x);
+    }
+    let marks = candidates(&s.postings, s.posting_count, x, k);
+    let l = record_marked(&s.heads, &s.next, &s.xmin, &marks, x);
+    if l.over {
+        return none_found(Refusal::ReadsFull(Fate::Open), x);
     }
     let found = matching(&s.heads, &s.next, &s.xmin, &s.key, &s.has, &marks, x, k);
     let y = looked(&s.stamps, x, l, k);
     let rows = found.at;
     Found {
-        refusal: why,
+        refusal: Refusal::Done,
         rows,
         count: found.count,
         tx: y,

@@ -1,5 +1,10 @@
--- The definition that the contracts cite.
+-- The definitions that the contracts cite.
 pub mod Packed
--- Laws about it.
+pub mod Halving
+-- Laws about them.
 pub mod Insert
 pub mod Remove
+pub mod HalvingTurns
+pub mod HalvingLaws
+-- Computed.
+pub mod HalvingExamples

@@ -10,6 +10,8 @@ ghost use Rattle.packed.specs.Packed.{Packed};
 ghost use Rattle.packed.specs.Insert.{ahead};
 use fields::lent::clipped;
 
+pub mod halving;
+
 // Zeroes every place from `from` on.
 fn clear(x: &mut [u64], from: usize)
     ensures { λ _. ⌜ now (x .exit) ≡ pad (length (now (x .entry))) 0 (take from (now (x .entry))) ⌝ }

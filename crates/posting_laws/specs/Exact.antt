@@ -20,11 +20,12 @@ use Rattle.rules.specs.Changes.{changes, destinations, sources, publishOne, ins
 use Rattle.run_laws.specs.OnlyKinds.{only, kept, is-not, key-kept, has-kept}
 use Rattle.run_laws.specs.GuardPuts.{applyAll-append}
 use Rattle.basic_laws.specs.Rearranged.{or-none}
+use Rattle.basic_laws.specs.TestParts.{postings-parts}
 use Rattle.basic_laws.specs.HeadPostings.{heads-rising, heads-length}
 use Rattle.posting_laws.specs.HeadsTold.{same-value, value-same, told-by-rows, head-member}
 use Rattle.posting_laws.specs.RestingPostings.{Exact, in-form, exact}
 use Rattle.posting_laws.specs.Posted.{posted, posted-of, posted-own, intoAll, withoutAll, mem-intoAll, mem-withoutAll}
-use Rattle.posting_laws.specs.Posted.{rising-intoAll, rising-withoutAll, intoAll-length, form-rising, inserted, removed}
+use Rattle.posting_laws.specs.Posted.{rising-intoAll, rising-withoutAll, intoAll-length, inserted, removed}
 use Rattle.posting_laws.specs.Written.{pick, pick-map, changed, mem-side}
 use Rattle.posting_laws.specs.Undone.{Ready, rows-fit, bases, once, room}
 use Rattle.run_laws.specs.PublishedChains.{newHeads, new-heads-long, publish-only, publish-heads}
@@ -72,7 +73,7 @@ module _ (S : Store) (x : Tx) (ok : Ready S x) where
   new-rising : rising 0 newPostings ≡ true
   new-rising =
       rising-withoutAll (sources (changes S x)) (intoAll (destinations (changes S x)) (postingsOf S))
-      (rising-intoAll (destinations (changes S x)) (postingsOf S) (form-rising S (in-form S (ok .rests))))
+      (rising-intoAll (destinations (changes S x)) (postingsOf S) (postings-parts S (in-form S (ok .rests)) .rise))
 
   -- row by row they are those of the new heads
   new-member : (k r : ℕ) → r < rows → memb (posting k r) newPostings ≡ memb (posting k r) (headPostings (S .key) (S .has) 0 (newHeads (finals x) (S .heads)))

@@ -11,13 +11,14 @@ use borrow.Author.Tests.{eqb-true, leb-true}
 use Rattle.records.specs.Limits.{postingLimit}
 use Rattle.records.specs.Setters.{withPostings}
 use Rattle.rules.specs.Types.{Store}
-use Rattle.basic_laws.specs.Cases.{by, every-cons}
+use Rattle.basic_laws.specs.Cases.{by}
 use Rattle.rules.specs.Lists.{memb, rising, into, without, isZero, pad}
 use Rattle.rules.specs.Store.{postingsOf, postingsInForm}
 use Rattle.rules.specs.Puts.{putInsert, putRemove, applyAll}
 use Rattle.run_laws.specs.GuardPuts.{applyAll-append}
 use Rattle.basic_laws.specs.Rearranged.{or-none, or-assoc, or-comm, or-swap, not-either}
 use Rattle.basic_laws.specs.Rising.{mem-into, rising-into, mem-without, rising-without, rising-ext, into-length, without-length}
+use Rattle.basic_laws.specs.TestParts.{postings-parts}
 use Rattle.basic_laws.specs.LaidOut.{take-pad, pad-take}
 
 -- the store with other postings
@@ -31,18 +32,12 @@ posted-of l S h = take-pad postingLimit 0 l h
 
 -- "packed": a store with its own postings laid out anew is the same store
 pub posted-own : (S : Store) → length (S .postings) ≡ postingLimit → postingsInForm S ≡ true → posted (postingsOf S) S ≡ S
-unfolding postingsOf postingsInForm
+unfolding postingsOf
 posted-own S long h =
-    let a = every-cons _ _ h in
-    let zeros = every-cons _ _ (every-cons _ _ (every-cons _ _ (a .1) .1) .1) .0 in
-    let count = length-take-le (S .«posting_count») (S .postings) (rw long (leb-true _ _ (a .0))) in
-    let array = pad-take 0 isZero (λ x. eqb-true x 0) postingLimit (S .«posting_count») (S .postings) long zeros in
+    let a = postings-parts S h in
+    let count = length-take-le (S .«posting_count») (S .postings) (rw long (leb-true _ _ (a .count))) in
+    let array = pad-take 0 isZero (λ x. eqb-true x 0) postingLimit (S .«posting_count») (S .postings) long (a .packed) in
     rw (array, count)
-
--- "kept rising"
-pub form-rising : (S : Store) → postingsInForm S ≡ true → rising 0 (postingsOf S) ≡ true
-unfolding postingsInForm
-form-rising S h = every-cons _ _ (every-cons _ _ h .1) .0
 
 -- numbers put in, and taken out, one after the other
 abbrev pub intoAll : List ℕ → List ℕ → List ℕ
@@ -118,7 +113,8 @@ put-back-but bs cs S long form new room =
     let more = intoAll-length bs l in
     let put : applyAll (map putInsert bs) S ≡ posted (intoAll bs l) S = ap (applyAll (map putInsert bs)) (sym own) ∙ inserted bs l S (omega arith) in
     rw (map-append putInsert bs cs, applyAll-append (map putInsert bs) (map putInsert cs) S, put)
-    (put-back-in cs (intoAll bs l) S (rising-intoAll bs l (form-rising S form)) (λ p m. rw (mem-intoAll bs l p, new p m .0) (new p m .1)) (omega arith))
+    (put-back-in cs (intoAll bs l) S (rising-intoAll bs l (postings-parts S form .rise))
+    (λ p m. rw (mem-intoAll bs l p, new p m .0) (new p m .1)) (omega arith))
 
 -- .. and leave the store as it was
 pub put-back : (cs : List ℕ) (S : Store) → length (S .postings) ≡ postingLimit → postingsInForm S ≡ true

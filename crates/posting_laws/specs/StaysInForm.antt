@@ -9,11 +9,12 @@ use lib.Dec.{ltb}
 use borrow.Author.Tests.{leb-true, le-leb}
 use Rattle.records.specs.Limits.{postingLimit, keyEnd}
 use Rattle.rules.specs.Types.{Store}
-use Rattle.basic_laws.specs.Cases.{by, and-true, and-both, every-cons, cons-every, every-none}
+use Rattle.basic_laws.specs.Cases.{by, and-true, and-both, cons-every, every-none}
 use Rattle.rules.specs.Lists.{all, memb, rising, into, without, allZero, pad}
 use Rattle.rules.specs.Store.{posting, postingsOf, postingsInForm}
 use Rattle.rules.specs.Puts.{Put, kInsert, kRemove, is, putInsert, apply, applyAll}
 use Rattle.run_laws.specs.OnlyKinds.{only, is-not}
+use Rattle.basic_laws.specs.TestParts.{postings-parts}
 use Rattle.basic_laws.specs.Rising.{rising-into, rising-without, into-length, without-length, all-into, all-without}
 use Rattle.posting_laws.specs.Posted.{posted, posted-of}
 
@@ -38,16 +39,11 @@ posted-form l S short up low =
     (cons-every _ _ (rw e low)
     (cons-every _ _ (pad-rest postingLimit l) every-none)))
 
--- the parts of the form
-form-parts : (S : Store) → postingsInForm S ≡ true → (rising 0 (postingsOf S) ≡ true) × (all small (postingsOf S) ≡ true)
-unfolding postingsInForm
-form-parts S h = let a = every-cons _ _ (every-cons _ _ h .1) in (a .0, every-cons _ _ (a .1) .0)
-
 -- at most the limit
 pub form-short : (S : Store) → postingsInForm S ≡ true → length (postingsOf S) ≤ postingLimit
-unfolding postingsInForm postingsOf
+unfolding postingsOf
 form-short S h =
-    let count : S .«posting_count» ≤ postingLimit = leb-true (S .«posting_count») postingLimit (every-cons _ _ h .0) in
+    let count : S .«posting_count» ≤ postingLimit = leb-true (S .«posting_count») postingLimit (postings-parts S h .count) in
     omega (arith, length-take (S .«posting_count») (S .postings))
 
 -- the postings that puts insert
@@ -79,7 +75,7 @@ form-along [] T h r s = h
 form-along (p ∷ ps) T h r s =
     let c = p .val in
     let l = postingsOf T in
-    let f = form-parts T h in
+    let f = postings-parts T h in
     by (is p kInsert)
     (λ e. let m = into c l in
     let r′ : suc (length (inserts ps)) + length l ≤ postingLimit = rw e at r in
@@ -87,7 +83,7 @@ form-along (p ∷ ps) T h r s =
     let short : length (inserts ps) + length m ≤ postingLimit = omega (arith, into-length c l) in
     let less : length m ≤ postingLimit = omega arith in
     let q = insert-posts p T e in
-    form-along ps (apply p T) (q .1 ∙ posted-form m T less (rising-into 0 c l (omega arith) (f .0)) (all-into small c l (s′ .0) (f .1)))
+    form-along ps (apply p T) (q .1 ∙ posted-form m T less (rising-into 0 c l (omega arith) (f .rise)) (all-into small c l (s′ .0) (f .keyed)))
     (rw (q .0, posted-of m T less) short) (s′ .1))
     (λ e. let r′ : length (inserts ps) + length l ≤ postingLimit = rw e at r in
     let s′ : all small (inserts ps) ≡ true = rw e at s in
@@ -96,7 +92,7 @@ form-along (p ∷ ps) T h r s =
     let short : length (inserts ps) + length m ≤ postingLimit = omega (arith, without-length c l) in
     let less : length m ≤ postingLimit = omega arith in
     let q = remove-posts p T e k in
-    form-along ps (apply p T) (q .1 ∙ posted-form m T less (rising-without 0 c l (f .0)) (all-without small c l (f .1)))
+    form-along ps (apply p T) (q .1 ∙ posted-form m T less (rising-without 0 c l (f .rise)) (all-without small c l (f .keyed)))
     (rw (q .0, posted-of m T less) short) s′)
     (λ k. let q = leave-posts p T e k in
     form-along ps (apply p T) (q .1 ∙ h) (rw (q .0) r′) s′))

@@ -1,6 +1,8 @@
 pub mod ReadList
 pub mod Record
 pub mod MarkedRows
+pub mod KeyWalk
+pub mod KeyWalkLaws
 pub mod CandidateTurns
 pub mod LookupTurns
 pub mod FoundRows

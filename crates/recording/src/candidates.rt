@@ -7,24 +7,27 @@ ghost use Rattle.fields.specs.Marks.{markAll};
 ghost use Rattle.recording.specs.MarkedRows.{noRows};
 ghost use Rattle.recording.specs.CandidateTurns.{postedRows, ownRows, candidateMarks};
 use fields::lent::clipped;
+use packed::halving::place_of;
 use records::RowId;
 use records::Store;
 use records::Tx;
 
-// The rows of the postings of key k.
+// The rows of the postings of key k: from its first one on, which is found by halving, to the first of another key.
 fn posted_rows(postings: &[u64; Store::POSTINGS], count: usize, k: u32) -> [bool; RowId::ROWS]
     ensures { λ m. ⌜ m ≡ markAll (postedRows (atPostings (now (postings .entry))) count k) noRows ⌝ }
 {
     let mut m = [false; RowId::ROWS];
     let n = clipped(count, Store::POSTINGS);
     let key = k as u64;
-    let mut i: usize = 0;
+    let first = place_of(postings, n, key * (RowId::ROWS as u64));
+    let mut i = first.at;
     while i < n {
         let c = postings[i];
         i += 1;
-        if c / (RowId::ROWS as u64) == key {
-            m[(c % (RowId::ROWS as u64)) as usize] = true;
+        if c / (RowId::ROWS as u64) != key {
+            return m;
         }
+        m[(c % (RowId::ROWS as u64)) as usize] = true;
     }
     m
 }
