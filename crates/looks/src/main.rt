@@ -5,7 +5,7 @@ mod tally;
 
 use fields::lent::clipped;
 use packed::halving::Place;
-use packed::halving::place_of;
+use packed::halving::find_place;
 use tally::added;
 use tally::none;
 
@@ -54,7 +54,7 @@ fn search_all(n: usize) {
     let mut v: u64 = 0;
     while v <= last {
         let a = from_front(&x, n, v);
-        let b = place_of(&x, n, v);
+        let b = find_place(&x, n, v);
         front = added(front, a.looks);
         halved = added(halved, b.looks);
         apart = added(apart, one_unless(a.at == b.at));

@@ -11,8 +11,8 @@ abbrev pub ended : ℕ → Place
 ended from = record { at = from; looks = 0 }
 
 -- a look, and then the search of what it left
-abbrev pub looked : Place → Place
-looked p = record { at = p .at; looks = suc (p .looks) }
+abbrev pub oneLook : Place → Place
+oneLook p = record { at = p .at; looks = suc (p .looks) }
 
 abbrev pub half : ℕ → ℕ
 half size = size / 2
@@ -29,8 +29,8 @@ searchFrom (suc most) v l from size =
     let middle = from + half size in
     let behind = searchFrom most v l (suc middle) (size - suc (half size)) in
     let before = searchFrom most v l from (half size) in
-    cond (eqb size 0) (ended from) (looked (cond (below v (getD l middle 0)) behind before))
+    cond (eqb size 0) (ended from) (oneLook (cond (below v (getD l middle 0)) behind before))
 
 -- where v stands in a list, or would stand
-unfoldable pub placeOf : ℕ → List ℕ → Place
-placeOf v l = searchFrom (length l) v l 0 (length l)
+unfoldable pub placeFound : ℕ → List ℕ → Place
+placeFound v l = searchFrom (length l) v l 0 (length l)

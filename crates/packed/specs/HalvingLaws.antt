@@ -12,7 +12,7 @@ use Rattle.rules.specs.Lists.{rising}
 use Rattle.basic_laws.specs.Cases.{and-true}
 use Rattle.packed.specs.declared.halving.Place.{Place}
 use Rattle.packed.specs.Insert.{ahead}
-use Rattle.packed.specs.Halving.{half, placeOf}
+use Rattle.packed.specs.Halving.{half, placeFound}
 use Rattle.packed.specs.HalvingTurns.{rest, each-search}
 
 module _ (v : ℕ) (l : List ℕ) where
@@ -68,8 +68,8 @@ pub record Between (v : ℕ) (l : List ℕ) (i : ℕ) : Type 0 where
   pub before : (j : ℕ) → suc j ≡ i → getD l j 0 < v
   pub behind : i < length l → v ≤ getD l i 0
 
-pub place-between : (v : ℕ) (l : List ℕ) → Between v l (placeOf v l .at)
-unfolding placeOf
+pub place-between : (v : ℕ) (l : List ℕ) → Between v l (placeFound v l .at)
+unfolding placeFound
 place-between v l =
     let b = rest-between v l 0 (length l) (λ j s. absurd (omega arith)) (λ h. absurd (omega arith)) in
     record { within = omega (arith, rest-within v l 0 (length l) .1); before = b .0; behind = b .1 }
@@ -98,18 +98,18 @@ between-alone v lo (y ∷ l) (suc i) r b =
     first (suc i) h w up = omega (arith, rises-from (suc y) l i up (omega arith))
 
 -- "The place found stays the same for every rising list, the empty one and an absent key included": going from the front ends there too
-pub place-rising : (v lo : ℕ) (l : List ℕ) → rising lo l ≡ true → placeOf v l .at ≡ ahead v l
-place-rising v lo l r = between-alone v lo l (placeOf v l .at) r (place-between v l)
+pub place-rising : (v lo : ℕ) (l : List ℕ) → rising lo l ≡ true → placeFound v l .at ≡ ahead v l
+place-rising v lo l r = between-alone v lo l (placeFound v l .at) r (place-between v l)
 
 -- the looks are the logarithm of the count, but for one: fewer than 2 ^ k numbers take at most k, as many less one take k or more
-pub looks-few : (v : ℕ) (l : List ℕ) (k : ℕ) → length l < 2 ^ k → placeOf v l .looks ≤ k
-unfolding placeOf
+pub looks-few : (v : ℕ) (l : List ℕ) (k : ℕ) → length l < 2 ^ k → placeFound v l .looks ≤ k
+unfolding placeFound
 looks-few v l k h = rest-few v l 0 (length l) k h
 
-pub looks-many : (v : ℕ) (l : List ℕ) (k : ℕ) → 2 ^ k ≤ suc (length l) → k ≤ placeOf v l .looks
-unfolding placeOf
+pub looks-many : (v : ℕ) (l : List ℕ) (k : ℕ) → 2 ^ k ≤ suc (length l) → k ≤ placeFound v l .looks
+unfolding placeFound
 looks-many v l k h = rest-many v l 0 (length l) k h
 
 -- 256 postings take at most 9
-pub nine-looks : (v : ℕ) (l : List ℕ) → length l ≤ 256 → placeOf v l .looks ≤ 9
+pub nine-looks : (v : ℕ) (l : List ℕ) → length l ≤ 256 → placeFound v l .looks ≤ 9
 nine-looks v l h = looks-few v l 9 (omega arith)

@@ -12,7 +12,7 @@ use lib.Dec.{eqb}
 use borrow.Author.Tests.{eq-eqb, ne-eqb, eqb-true, eqb-false, lt-ltb, le-ltb}
 use Rattle.basic_laws.specs.Cases.{by}
 use Rattle.packed.specs.declared.halving.Place.{Place}
-use Rattle.packed.specs.Halving.{ended, looked, half, below, searchFrom, placeOf}
+use Rattle.packed.specs.Halving.{ended, oneLook, half, below, searchFrom, placeFound}
 
 module _ (v : ℕ) (l : List ℕ) where
   -- what is left, `size` numbers from `from` on, is searched to its end
@@ -43,25 +43,25 @@ module _ (v : ℕ) (l : List ℕ) where
     middle = from + half size
 
     look : let behind = searchFrom size v l (suc middle) (size - suc (half size)) in
-        rest from size ≡ looked (cond (below v (getD l middle 0)) behind (searchFrom size v l from (half size)))
+        rest from size ≡ oneLook (cond (below v (getD l middle 0)) behind (searchFrom size v l from (half size)))
     unfolding searchFrom
     look = enough size (suc size) from size (omega arith) (omega arith) ∙ rw (ne-eqb size 0 (λ e. omega arith))
 
-    pub rest-behind : below v (getD l middle 0) ≡ true → rest from size ≡ looked (rest (suc middle) (size - suc (half size)))
+    pub rest-behind : below v (getD l middle 0) ≡ true → rest from size ≡ oneLook (rest (suc middle) (size - suc (half size)))
     rest-behind h =
         let left = size - suc (half size) in
-        look ∙ rw h (ap looked (enough size left (suc middle) left (omega arith) (omega arith)))
+        look ∙ rw h (ap oneLook (enough size left (suc middle) left (omega arith) (omega arith)))
 
-    pub rest-before : below v (getD l middle 0) ≡ false → rest from size ≡ looked (rest from (half size))
-    rest-before h = look ∙ rw h (ap looked (enough size (half size) from (half size) (omega arith) (omega arith)))
+    pub rest-before : below v (getD l middle 0) ≡ false → rest from size ≡ oneLook (rest from (half size))
+    rest-before h = look ∙ rw h (ap oneLook (enough size (half size) from (half size) (omega arith) (omega arith)))
 
   -- what holds where nothing is left, and goes back over a look to either side, holds of every search
   module _ (P : ℕ → ℕ → Place → Type 0)
       (none : (from : ℕ) → P from 0 (ended from))
       (behind : (from size : ℕ) (p : Place) → 0 < size → below v (getD l (from + half size) 0) ≡ true
-      → P (suc (from + half size)) (size - suc (half size)) p → P from size (looked p))
+      → P (suc (from + half size)) (size - suc (half size)) p → P from size (oneLook p))
       (before : (from size : ℕ) (p : Place) → 0 < size → below v (getD l (from + half size) 0) ≡ false → P from (half size) p
-      → P from size (looked p)) where
+      → P from size (oneLook p)) where
     up-to : (m from size : ℕ) → size ≤ m → P from size (rest from size)
     up-to zero from size h = let e : size ≡ 0 = omega arith in rw (e, rest-none from) (none from)
     up-to (suc m) from size h = by (eqb size 0)
@@ -75,21 +75,21 @@ module _ (v : ℕ) (l : List ℕ) where
     each-search from size = up-to size from size (omega arith)
 
 -- so many looks more
-abbrev pub more : ℕ → Place → Place
-more n p = record { at = p .at; looks = n + p .looks }
+abbrev pub looksMore : ℕ → Place → Place
+looksMore n p = record { at = p .at; looks = n + p .looks }
 
-more-none : (p : Place) → more 0 p ≡ p
+more-none : (p : Place) → looksMore 0 p ≡ p
 more-none p i = record { at = p .at; looks = zero-add (p .looks) i }
 
-one-more : (n : ℕ) (p : Place) → more (n + 1) p ≡ more n (looked p)
+one-more : (n : ℕ) (p : Place) → looksMore (n + 1) p ≡ looksMore n (oneLook p)
 one-more n p = let e : n + 1 + p .looks ≡ n + suc (p .looks) = omega arith in λ i. record { at = p .at; looks = e i }
 
 -- the turns of a loop over the first n of an array: the looks so far, and the search of what is left
 abbrev pub searched : ℕ → ℕ → List ℕ → ℕ → ℕ → ℕ → Place
-searched v n x from size looks = more looks (rest v (take n x) from size)
+searched v n x from size looks = looksMore looks (rest v (take n x) from size)
 
-pub turn-start : (v n : ℕ) (x : List ℕ) (size : ℕ) → size ≡ min n (length x) → searched v n x 0 size 0 ≡ placeOf v (take n x)
-unfolding placeOf
+pub turn-start : (v n : ℕ) (x : List ℕ) (size : ℕ) → size ≡ min n (length x) → searched v n x 0 size 0 ≡ placeFound v (take n x)
+unfolding placeFound
 turn-start v n x size e = more-none _ ∙ rw (length-take n x, e)
 
 module _ (v n : ℕ) (x : List ℕ) (from size looks : ℕ) {t : Place} (e : searched v n x from size looks ≡ t) where

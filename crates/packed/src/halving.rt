@@ -2,7 +2,7 @@
 
 ghost use mathlib.Core.Path.{_≡_};
 ghost use lib.ListN.{take};
-ghost use Rattle.packed.specs.Halving.{placeOf};
+ghost use Rattle.packed.specs.Halving.{placeFound};
 use fields::lent::clipped;
 
 // Where a search ended, and how many looks at the list it took.
@@ -11,9 +11,9 @@ pub struct Place {
     pub looks: usize,
 }
 
-// Where v stands, or would, among the first n: each look leaves less than half of what was left, or half of it.
-pub fn place_of(x: &[u64], n: usize, v: u64) -> Place
-    ensures { λ p. ⌜ p ≡ placeOf v (take n (now (x .entry))) ⌝ }
+// Where v stands, or would, among the first n: each look leaves at most half of what was left.
+pub fn find_place(x: &[u64], n: usize, v: u64) -> Place
+    ensures { λ p. ⌜ p ≡ placeFound v (take n (now (x .entry))) ⌝ }
 {
     let mut from: usize = 0;
     let mut size = clipped(n, x.len());

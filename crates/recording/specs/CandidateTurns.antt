@@ -23,7 +23,7 @@ use Rattle.fields.specs.Lent.{atPostings, array-same}
 use Rattle.fields.specs.First.{firstFrom}
 use Rattle.fields.specs.Marks.{markAll, mark-append}
 use Rattle.packed.specs.Packed.{take-within}
-use Rattle.packed.specs.Halving.{placeOf}
+use Rattle.packed.specs.Halving.{placeFound}
 use Rattle.recording.specs.MarkedRows.{noRows, markedRows, rows-in-order}
 use Rattle.recording.specs.KeyWalk.{ofKey, leading, keyWalk}
 use Rattle.recording.specs.KeyWalkLaws.{walk-rising}
@@ -54,7 +54,7 @@ candidates-of S x k r = rw (walk-rising k 0 (take (S .«posting_count») (S .pos
 
 -- the walk starts at the place of the key, found among the first n
 pub walk-starts : (postings : List ℕ) (count n k i : ℕ) → length postings ≡ postingLimit → n ≡ min count postingLimit
-    → i ≡ placeOf (k * rows) (take n postings) .at
+    → i ≡ placeFound (k * rows) (take n postings) .at
     → rowsInFront k (firstFrom count (atPostings postings) i) ≡ postedRows (atPostings postings) count k
 unfolding firstFrom keyWalk
 walk-starts postings count n k i long e f =

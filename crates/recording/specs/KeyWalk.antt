@@ -5,7 +5,7 @@ use Prim.Native.Nat.{ℕ}
 use lib.ListN.{drop}
 use lib.Dec.{eqb}
 use Rattle.rules.specs.Store.{posting, keyOf}
-use Rattle.packed.specs.Halving.{placeOf}
+use Rattle.packed.specs.Halving.{placeFound}
 
 abbrev pub ofKey : ℕ → ℕ → Bool
 ofKey k c = eqb (keyOf c) k
@@ -21,4 +21,4 @@ firstPosting k = posting k 0
 
 -- the postings of key k that are found in a list, whatever its order
 unfoldable pub keyWalk : ℕ → List ℕ → List ℕ
-keyWalk k l = leading (ofKey k) (drop (placeOf (firstPosting k) l .at) l)
+keyWalk k l = leading (ofKey k) (drop (placeFound (firstPosting k) l .at) l)

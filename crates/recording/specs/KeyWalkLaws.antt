@@ -12,7 +12,7 @@ use Rattle.rules.specs.Lists.{all, any, rising, those}
 use Rattle.rules.specs.Store.{posting, keyOf}
 use Rattle.basic_laws.specs.Cases.{by, and-true}
 use Rattle.packed.specs.Insert.{ahead}
-use Rattle.packed.specs.Halving.{placeOf}
+use Rattle.packed.specs.Halving.{placeFound}
 use Rattle.packed.specs.HalvingLaws.{place-rising}
 use Rattle.recording.specs.KeyWalk.{ofKey, leading, firstPosting, keyWalk}
 
@@ -58,7 +58,7 @@ module _ (k : ℕ) where
       rw (le-leb k (keyOf c) (omega arith)) (high (suc c) l (omega arith) (a .1))
 
   -- in a rising list the keys in front of the place are smaller and none behind it is: there the first posting of the key stands, or would stand
-  pub place-of-key : (lo : ℕ) (l : List ℕ) → rising lo l ≡ true → let i = placeOf (firstPosting k) l .at in
+  pub place-of-key : (lo : ℕ) (l : List ℕ) → rising lo l ≡ true → let i = placeFound (firstPosting k) l .at in
       (all (λ c. ltb (keyOf c) k) (take i l) ≡ true) × (all (λ c. leb k (keyOf c)) (drop i l) ≡ true)
   unfolding ahead
   place-of-key lo l r = rw (place-rising (firstPosting k) lo l r) (parted lo l r)
@@ -73,17 +73,17 @@ module _ (k : ℕ) where
           (λ t. let ge = ltb-false c (firstPosting k) t in rw t (refl, high c (c ∷ l) ge (rw (le-leb c c (omega arith)) (a .1))))
 
 -- on any list: the postings of key k in front, all of them up to the end or to the first of another key
-pub record Run (k : ℕ) (l w : List ℕ) : Type 0 where
+pub record KeyRun (k : ℕ) (l w : List ℕ) : Type 0 where
   pub rest : List ℕ
   pub stands : l ≡ w ++ rest
   pub keyed : all (ofKey k) w ≡ true
   pub ends : any (ofKey k) (take 1 rest) ≡ false
 
-pub walk-run : (k : ℕ) (l : List ℕ) → Run k (drop (placeOf (firstPosting k) l .at) l) (keyWalk k l)
+pub walk-run : (k : ℕ) (l : List ℕ) → KeyRun k (drop (placeFound (firstPosting k) l .at) l) (keyWalk k l)
 unfolding keyWalk
-walk-run k l = front (drop (placeOf (firstPosting k) l .at) l)
+walk-run k l = front (drop (placeFound (firstPosting k) l .at) l)
   where
-    front : (l : List ℕ) → Run k l (leading (ofKey k) l)
+    front : (l : List ℕ) → KeyRun k l (leading (ofKey k) l)
     front [] = record { rest = []; stands = refl; keyed = refl; ends = refl }
     front (c ∷ l) =
         let r = front l in

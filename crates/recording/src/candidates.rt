@@ -7,7 +7,7 @@ ghost use Rattle.fields.specs.Marks.{markAll};
 ghost use Rattle.recording.specs.MarkedRows.{noRows};
 ghost use Rattle.recording.specs.CandidateTurns.{postedRows, ownRows, candidateMarks};
 use fields::lent::clipped;
-use packed::halving::place_of;
+use packed::halving::find_place;
 use records::RowId;
 use records::Store;
 use records::Tx;
@@ -19,7 +19,7 @@ fn posted_rows(postings: &[u64; Store::POSTINGS], count: usize, k: u32) -> [bool
     let mut m = [false; RowId::ROWS];
     let n = clipped(count, Store::POSTINGS);
     let key = k as u64;
-    let first = place_of(postings, n, key * (RowId::ROWS as u64));
+    let first = find_place(postings, n, key * (RowId::ROWS as u64));
     let mut i = first.at;
     while i < n {
         let c = postings[i];

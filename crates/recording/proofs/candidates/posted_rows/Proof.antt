@@ -28,8 +28,8 @@ loop-holds c =
     let a = s .before .args in (
       s .clipped .ensures,
       ap (λ l. markAll l noRows)
-          (walk-starts (a .postings .now) (a .count) (s .clipped .result) (a .k) _ (c .before .place-of-arg .given .0) (s .clipped .ensures)
-          (ap (λ (p : Place). p .at) (c .place-of .ensures))),
+          (walk-starts (a .postings .now) (a .count) (s .clipped .result) (a .k) _ (c .before .find-place-arg .given .0) (s .clipped .ensures)
+          (ap (λ (p : Place). p .at) (c .find-place .ensures))),
     )
 
 returns : tie.Need-returns Inv-loop μ-loop

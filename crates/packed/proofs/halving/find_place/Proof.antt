@@ -1,17 +1,17 @@
--- `place_of` meets its contract: the looks so far and the search of what is left make the whole search.
+-- `find_place` meets its contract: the looks so far and the search of what is left make the whole search.
 use mathlib.Core.Path.{_≡_}
 use Prim.Native.Nat.{_+_, _≤_, min}
 use native.Mathlib.Omega.{arith}
 use lib.ListN.{length, take}
-use Rattle.packed.specs.Halving.{placeOf}
+use Rattle.packed.specs.Halving.{placeFound}
 use Rattle.packed.specs.HalvingTurns.{searched, turn-start, turn-end, turn-behind, turn-before}
 use borrow.Author.Needs.{needs}
-use Rattle.packed.proofs.halving.place_of.Statement.{statement}
-use Rattle.packed.proofs.halving.place_of.Tie as tie
+use Rattle.packed.proofs.halving.find_place.Statement.{statement}
+use Rattle.packed.proofs.halving.find_place.Tie as tie
 
 abbrev Inv-loop : tie.InvT-loop
 Inv-loop x n v from₀ size₀ looks₀ from size looks =
-    (looks + size ≤ length x) × (from + size ≤ min n (length x)) × (searched v n x from size looks ≡ placeOf v (take n x))
+    (looks + size ≤ length x) × (from + size ≤ min n (length x)) × (searched v n x from size looks ≡ placeFound v (take n x))
 
 abbrev μ-loop : tie.MeasureT-loop
 μ-loop x n v from₀ size₀ looks₀ from size looks = size
@@ -37,7 +37,7 @@ returns c =
     let s = a .before .before .before .args in
     turn-end (s .v) (s .n) (s .x .now) (a .loop .from) (a .loop .size) (a .loop .looks) (a .loop .inv .2) (omega arith)
 
-pub place-of-spec : {M : Type 1} → statement M
-place-of-spec =
+pub find-place-spec : {M : Type 1} → statement M
+find-place-spec =
     tie.close (tie.spec Inv-loop μ-loop (λ c κs. search needs) loop-holds (λ c. search needs) (λ c. search needs) (λ c. search needs)
     (λ c. search needs) (λ c. search needs) (λ c. search needs) (λ c. search needs) (λ c. search needs) loop-again (λ c. search needs) loop-again-2 returns)
