@@ -6,10 +6,10 @@ use mathlib.Core.Logic.{_↔_, _⊎_, inl, inr, ⊎-elim}
 use Prim.Native.Nat.{ℕ, zero, suc, _+_, _%_, _≤_, _<_}
 use native.Mathlib.Omega.{arith}
 use lib.ListN.{length, getD, length-append, length-map, List·getD-map}
-use lib.Dec.{eqb, ltb, leb}
+use lib.Dec.{eqb, ltb}
 use borrow.Author.Tests.{eqb-false, ne-eqb, ltb-true, ltb-false, lt-ltb, le-ltb, lt-leb, not-true}
 use Rattle.records.specs.Limits.{rows, slots, stripes, activeLimit, readLimit, clockEnd, lastMinute}
-use Rattle.rules.specs.Lists.{any, memb, pad, firstOf, rising}
+use Rattle.rules.specs.Lists.{any, memb, pad, firstOf}
 use Rattle.rules.specs.Types.{Store, Tx, ReadRecord, RowId, Value, Absent, Key, Seen}
 use Rattle.rules.specs.Store.{sameValue, carries, activeTxids}
 use Rattle.rules.specs.Transaction.{writesOf, readsOf, sees, lastOwn}
@@ -20,8 +20,9 @@ use Rattle.rules.specs.Puts.{putEnter, putClock, applyAll}
 use Rattle.rules.specs.Calls.{begun, begin, visibleVersion, readPtr, sameRead, recordRead, read, candidates, recordReads, matching, asRow, lookup}
 use Rattle.basic_laws.specs.AllOf.{any-append}
 use Rattle.basic_laws.specs.Cases.{by, clash, iff, and-true, and-false, or-false, mem-here, mem-there}
-use Rattle.basic_laws.specs.Members.{at-mem, mem-all}
-use Rattle.basic_laws.specs.Rising.{unique, rising-from, rising-unique, rising-ext, rising-short}
+use Rattle.basic_laws.specs.Members.{mem-all}
+use Rattle.basic_laws.specs.Placed.{rising-at}
+use Rattle.basic_laws.specs.Rising.{unique, rising-unique, rising-ext, rising-short}
 use Rattle.basic_laws.specs.Rearranged.{or-none}
 use Rattle.basic_laws.specs.LaidOut.{before-take, pad-length, take-pad}
 use Rattle.records.specs.Zero.{noRead}
@@ -46,15 +47,6 @@ use Rattle.call_laws.specs.BeginLaws.{begin-keeps}
 use Rattle.call_laws.specs.ReadLaws.{same-version}
 use Rattle.call_laws.specs.KeepsReads.{read-keeps}
 use Rattle.call_laws.specs.CandidateRows.{candidates-rise, candidate-below, matching-rise, matching-is}
-
--- a rising list, place by place
-rising-places : (lo : ℕ) (l : List ℕ) → rising lo l ≡ true → (i j : ℕ) → i < j → j < length l → getD l i 0 < getD l j 0
-rising-places lo [] h i j lt le = absurd (omega arith)
-rising-places lo (x ∷ l) h i zero lt le = absurd (omega arith)
-rising-places lo (x ∷ l) h zero (suc j) lt le =
-    rising-from (suc x) l (getD l j 0) (and-true (leb lo x) (rising (suc x) l) h .1) (at-mem l j (omega arith))
-rising-places lo (x ∷ l) h (suc i) (suc j) lt le =
-    rising-places (suc x) l (and-true (leb lo x) (rising (suc x) l) h .1) i j (omega arith) (omega arith)
 
 -- what is laid out stands at its place
 pad-place {ℓ} : {A : Type ℓ} (z : A) (n : ℕ) (l : List A) (i : ℕ) → length l ≤ n → getD (pad n z l) i z ≡ getD l i z
@@ -343,7 +335,7 @@ store-shows T z rest sound few early value same =
       looks = λ k. rw e (
         candidates (entered T) (begun T) k,
         record {
-          rising = rising-places 0 (candidates (entered T) (begun T) k) (candidates-rise (entered T) (begun T) k);
+          rising = rising-at 0 (candidates (entered T) (begun T) k) (candidates-rise (entered T) (begun T) k);
           exactly = λ r. let c = candidate-says T z rest sound few early k r in
               (λ m. let a = c .0 m in (a .0, sym (same r (a .0)) ∙ a .1), λ a. c .1 (a .0, same r (a .0) ∙ a .1));
         },

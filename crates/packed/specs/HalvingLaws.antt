@@ -7,9 +7,10 @@ use native.Mathlib.Nat.{two-pow-succ, one-le-pow}
 use native.Mathlib.Omega.{arith}
 use lib.ListN.{length, getD}
 use lib.Dec.{leb}
-use borrow.Author.Tests.{ltb-true, ltb-false, leb-true, lt-ltb, le-ltb}
+use borrow.Author.Tests.{ltb-true, ltb-false, lt-ltb, le-ltb}
 use Rattle.rules.specs.Lists.{rising}
 use Rattle.basic_laws.specs.Cases.{and-true}
+use Rattle.basic_laws.specs.Placed.{rising-at}
 use Rattle.packed.specs.declared.halving.Place.{Place}
 use Rattle.packed.specs.Insert.{ahead}
 use Rattle.packed.specs.Halving.{half, placeFound}
@@ -74,28 +75,20 @@ place-between v l =
     let b = rest-between v l 0 (length l) (λ j s. absurd (omega arith)) (λ h. absurd (omega arith)) in
     record { within = omega (arith, rest-within v l 0 (length l) .1); before = b .0; behind = b .1 }
 
--- the numbers of a rising list are not below its start
-rises-from : (lo : ℕ) (l : List ℕ) (i : ℕ) → rising lo l ≡ true → i < length l → lo ≤ getD l i 0
-rises-from lo [] i r h = absurd (omega arith)
-rises-from lo (y ∷ l) zero r h = leb-true lo y (and-true (leb lo y) (rising (suc y) l) r .0)
-rises-from lo (y ∷ l) (suc i) r h =
-    let a = and-true (leb lo y) (rising (suc y) l) r in
-    omega (arith, leb-true lo y (a .0), rises-from (suc y) l i (a .1) (omega arith))
-
--- so there is one such place in it
+-- in a rising list there is one such place
 between-alone : (v lo : ℕ) (l : List ℕ) (i : ℕ) → rising lo l ≡ true → Between v l i → i ≡ ahead v l
 unfolding ahead
 between-alone v lo [] i r b = omega (arith, b .within)
 between-alone v lo (y ∷ l) zero r b = rw (le-ltb y v (b .behind (omega arith)))
 between-alone v lo (y ∷ l) (suc i) r b =
     let up = and-true (leb lo y) (rising (suc y) l) r .1 in
-    let below : y < v = first i (b .before i refl) (b .within) up in
+    let below : y < v = first i (b .before i refl) (b .within) in
     rw (lt-ltb y v below) (ap suc (between-alone v (suc y) l i up
     (record { within = omega (arith, b .within); before = λ j e. b .before (suc j) (ap suc e); behind = λ h. b .behind (omega arith) })))
   where
-    first : (i : ℕ) → getD (y ∷ l) i 0 < v → suc i ≤ suc (length l) → rising (suc y) l ≡ true → y < v
-    first zero h w up = h
-    first (suc i) h w up = omega (arith, rises-from (suc y) l i up (omega arith))
+    first : (i : ℕ) → getD (y ∷ l) i 0 < v → suc i ≤ suc (length l) → y < v
+    first zero h w = h
+    first (suc i) h w = omega (arith, h, rising-at lo (y ∷ l) r zero (suc i) (omega arith) (omega arith))
 
 -- "The place found stays the same for every rising list, the empty one and an absent key included": going from the front ends there too
 pub place-rising : (v lo : ℕ) (l : List ℕ) → rising lo l ≡ true → placeFound v l .at ≡ ahead v l
