@@ -1,6 +1,6 @@
 -- Chains: a chain is a list that is checked, and the definition by fuel computes it.
 use Rattle.std.specs.Prelude.{◌≡◌, refl, true, false, List, [], ◌∷◌, ℕ, zero, suc, ◌≤◌, ◌<◌, length, get_or, eqb}
-use Rattle.std.proofs.Common.{ap, arith, eqb-true}
+use Rattle.std.proofs.Common.{ap, sym, subst, arith, eqb-true}
 use Rattle.rules.specs.Lists.{memb}
 use Rattle.rules.specs.Chains.{chain_from}
 use Rattle.basic_laws.specs.Cases.{by, clash, or_true, mem_here, mem_there}
@@ -71,4 +71,4 @@ chain_once ns p x l h = by (memb x l)
 -- a chain that is not empty starts with its head
 pub chain_head : (ns : List ℕ) (p : ℕ) (l : List ℕ) → IsChain ns p l → (p ≡ 0 → ⊥) → memb p l ≡ true
 chain_head ns p [] h n = absurd (n h)
-chain_head ns p (x ∷ l) h n = rw h.0 (mem_here x l)
+chain_head ns p (x ∷ l) h n = subst (λ y. memb y (x ∷ l) ≡ true) (sym h.0) (mem_here x l)

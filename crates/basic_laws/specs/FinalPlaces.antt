@@ -29,7 +29,7 @@ pub first_final : (w : Write) (ws : List Write) → (later w ws ≡ false) ↔ F
 first_final w ws = (
   λ e. (
     omega arith,
-    λ b. elim b [
+    elim [
       | zero ↦ λ lt lb. absurd (omega arith)
       | suc b ↦ λ lt lb q. eqb-false _ _ (none_at (λ v. eqb v.row.0 w.row.0) ws no_write e b (omega arith)) q
     ],
@@ -42,6 +42,6 @@ first_final w ws = (
 
 pub next_final : (w : Write) (ws : List Write) (a : ℕ) → FinalAt ws a ↔ FinalAt (w ∷ ws) (suc a)
 next_final w ws a = (
-  λ h. (omega (arith, h.0), λ b. elim b [ zero ↦ λ lt lb. absurd (omega arith) | suc b ↦ λ lt lb. h.1 b (omega arith) (omega arith) ]),
+  λ h. (omega (arith, h.0), elim [ zero ↦ λ lt lb. absurd (omega arith) | suc b ↦ λ lt lb. h.1 b (omega arith) (omega arith) ]),
   λ h. (omega (arith, h.0), λ b lt lb. h.1 (suc b) (omega arith) (omega arith)),
 )

@@ -43,14 +43,14 @@ module _ {ℓ} {A : Type ℓ} where
       out false m e = refl
 
 -- a test of two lists: where the first fails at a place the second holds there, and back
-pub each_or {ℓ κ} : {A : Type ℓ} {B : Type κ} (f : A → Bool) (g : B → Bool) (l : List A) (m : List B) (a : A) (b : B)
+pub each_or_law {ℓ κ} : {A : Type ℓ} {B : Type κ} (f : A → Bool) (g : B → Bool) (l : List A) (m : List B) (a : A) (b : B)
     → each_or f g l m ≡ true → (p : ℕ) → p < length m → f (get_or l p a) ≡ false → g (get_or m p b) ≡ true
-each_or f g l [] a b h p lt n = absurd (omega arith)
-each_or f g [] (y ∷ m) a b h zero lt n = (and_true (g y) (each_or f g [] m) h).0
-each_or f g [] (y ∷ m) a b h (suc p) lt n = each_or f g [] m a b (and_true (g y) (each_or f g [] m) h).1 p (omega arith) n
-each_or f g (x ∷ l) (y ∷ m) a b h zero lt n =
+each_or_law f g l [] a b h p lt n = absurd (omega arith)
+each_or_law f g [] (y ∷ m) a b h zero lt n = (and_true (g y) (each_or f g [] m) h).0
+each_or_law f g [] (y ∷ m) a b h (suc p) lt n = each_or_law f g [] m a b (and_true (g y) (each_or f g [] m) h).1 p (omega arith) n
+each_or_law f g (x ∷ l) (y ∷ m) a b h zero lt n =
     or_true (f x) (g y) (and_true (f x || g y) (each_or f g l m) h).0 (λ e. clash e n) (λ e. e)
-each_or f g (x ∷ l) (y ∷ m) a b h (suc p) lt n = each_or f g l m a b (and_true (f x || g y) (each_or f g l m) h).1 p (omega arith) n
+each_or_law f g (x ∷ l) (y ∷ m) a b h (suc p) lt n = each_or_law f g l m a b (and_true (f x || g y) (each_or f g l m) h).1 p (omega arith) n
 
 pub or_each {ℓ κ} : {A : Type ℓ} {B : Type κ} (f : A → Bool) (g : B → Bool) (l : List A) (m : List B) (a : A) (b : B)
     → length m ≤ length l → ((p : ℕ) → p < length m → f (get_or l p a) ≡ false → g (get_or m p b) ≡ true) → each_or f g l m ≡ true

@@ -4,13 +4,13 @@ use Rattle.std.proofs.Common.{arith, get_or-drop, eqb-true, eq-eqb, ltb-true, lt
 use Rattle.std.proofs.Math.ListN.{get_or-eq_default}
 use Rattle.rules.specs.Lists.{all_zero, each_or, is_zero, rising}
 use Rattle.basic_laws.specs.Cases.{by, and_true, and_both}
-use Rattle.basic_laws.specs.Members.{all_at, at_all, each_or, or_each}
+use Rattle.basic_laws.specs.Members.{all_at, at_all, each_or_law, or_each}
 
 -- where the first list's test fails the second list has the blank z, for which g is the test
 module _ {ℓ κ} {A : Type ℓ} {B : Type κ} (f : A → Bool) (g : B → Bool) (a : A) (z : B) where
   pub blank_at : ((b : B) → g b ≡ true → b ≡ z) → (l : List A) (m : List B) → each_or f g l m ≡ true → (p : ℕ) → f (get_or l p a) ≡ false → get_or m p z ≡ z
   blank_at is l m h p n = by (ltb p (length m))
-      (λ e. is (get_or m p z) (each_or f g l m a z h p (ltb-true p (length m) e) n))
+      (λ e. is (get_or m p z) (each_or_law f g l m a z h p (ltb-true p (length m) e) n))
       (λ e. get_or-eq_default m z (ltb-false p (length m) e))
 
   -- and back

@@ -133,21 +133,21 @@ front l L (suc r) = L r
 rows_front : (next : List ℕ) (h : ℕ) (hs seen m s l : List ℕ) (L : ℕ → List ℕ) → Walked next seen h m l → Rows next hs m s L
     → Rows next (h ∷ hs) seen s (front l L)
 rows_front next h hs seen m s l L w R = record {
-  chain = λ r. elim r [ zero ↦ λ lt. w.chain | suc q ↦ λ lt. R.chain q (omega arith) ];
-  fresh = λ r x. elim r [ zero ↦ λ lt e. w.fresh x e | suc q ↦ λ lt e. unseen x (R.fresh q x (omega arith) e) ];
-  apart = λ r q x. elim r [
-    | zero ↦ elim q [ zero ↦ λ lr lq er eq. refl | suc q ↦ λ lr lq er eq. clash (seen_l x er) (R.fresh q x (omega arith) eq) ]
-    | suc r ↦ elim q [
-      | zero ↦ λ lr lq er eq. clash (seen_l x eq) (R.fresh r x (omega arith) er)
-      | suc q ↦ λ lr lq er eq. ap suc (R.apart r q x (omega arith) (omega arith) er eq)
+  chain = elim [ zero ↦ λ lt. w.chain | suc q ↦ λ lt. R.chain q (omega arith) ];
+  fresh = elim [ zero ↦ λ x lt e. w.fresh x e | suc q ↦ λ x lt e. unseen x (R.fresh q x (omega arith) e) ];
+  apart = elim [
+    | zero ↦ elim [ zero ↦ λ x lr lq er eq. refl | suc q ↦ λ x lr lq er eq. clash (seen_l x er) (R.fresh q x (omega arith) eq) ]
+    | suc r ↦ elim [
+      | zero ↦ λ x lr lq er eq. clash (seen_l x eq) (R.fresh r x (omega arith) er)
+      | suc q ↦ λ x lr lq er eq. ap suc (R.apart r q x (omega arith) (omega arith) er eq)
     ]
   ];
-  marked = λ r x. elim r [ zero ↦ λ lt e. R.kept x (seen_l x e) | suc q ↦ λ lt e. R.marked q x (omega arith) e ];
+  marked = elim [ zero ↦ λ x lt e. R.kept x (seen_l x e) | suc q ↦ λ x lt e. R.marked q x (omega arith) e ];
   kept = λ x e. R.kept x (w.marks x ∙ or_right (memb x l) (on seen x) e);
   found = λ x e n. by (on m x)
       (λ k. (zero, omega arith, or_true (memb x l) (on seen x) (sym (w.marks x) ∙ k) (λ z. z) (λ z. clash z n)))
       (λ k. let f = R.found x e k in (suc f.0, omega (arith, f.1), f.2));
-  short = λ r. elim r [ zero ↦ λ lt. omega (arith, w.size, R.size) | suc q ↦ λ lt. omega (arith, w.size, R.short q (omega arith)) ];
+  short = elim [ zero ↦ λ lt. omega (arith, w.size, R.size) | suc q ↦ λ lt. omega (arith, w.size, R.short q (omega arith)) ];
   size = omega (arith, w.size, R.size);
   long = R.long ∙ w.long;
 }

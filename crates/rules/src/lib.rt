@@ -1,5 +1,7 @@
 // The rules of document 01 are the definitions in specs/; what runs here is the constant table of faults, held to the definitions' table.
 
+#![tactic(auto)]
+
 ghost use Rattle.std.specs.Prelude.{◌≡◌, get_or};
 ghost use Rattle.rules.specs.Faults.{masks};
 
