@@ -5,13 +5,13 @@ ghost use Rattle.std.specs.Prelude.{◌≡◌};
 ghost use Rattle.records.specs.Zero.{fresh, zero_tx, no_faults};
 
 // A txid, a row id and a slot pointer can't be mixed up.
-#[derive(Drop)]
+#[derive(Clone, Copy)]
 pub struct Txid(pub u64);
 
-#[derive(Drop)]
+#[derive(Clone, Copy)]
 pub struct RowId(pub usize);
 
-#[derive(Drop)]
+#[derive(Clone, Copy)]
 pub struct SlotPtr(pub u32);
 
 impl Txid {
@@ -37,7 +37,7 @@ impl SlotPtr {
 }
 
 // A 32-bit key, or none.
-#[derive(Drop)]
+#[derive(Clone, Copy)]
 pub enum Value {
     Absent,
     Key(u32),
@@ -105,7 +105,7 @@ impl Store {
 }
 
 // Source 002's CommittedWrite: row_id, base_offset, new_offset.
-#[derive(Drop)]
+#[derive(Clone, Copy)]
 pub struct Write {
     pub row: RowId,
     pub base: SlotPtr,
@@ -121,7 +121,7 @@ impl Write {
 }
 
 // Source 002's ReadRecord: row_id, row_ptr, xmin.
-#[derive(Drop)]
+#[derive(Clone, Copy)]
 pub struct ReadRecord {
     pub row: RowId,
     pub ptr: SlotPtr,
@@ -136,7 +136,7 @@ impl ReadRecord {
     };
 }
 
-#[derive(Drop)]
+#[derive(Clone, Copy)]
 pub struct IndexRead {
     pub stripe: u32,
     pub stamp: Txid,
@@ -207,7 +207,7 @@ impl Tx {
 }
 
 // A fault at a step: its letter in ASCII, and k.
-#[derive(Drop)]
+#[derive(Clone, Copy)]
 pub struct Fault {
     pub step: u32,
     pub letter: u8,
@@ -223,7 +223,7 @@ impl Fault {
 }
 
 // One fault more than there are steps is never fit, so no more are kept.
-#[derive(Drop)]
+#[derive(Clone, Copy)]
 pub struct Schedule {
     pub faults: [Fault; Schedule::FAULTS],
     pub count: usize,
@@ -251,14 +251,14 @@ impl Schedule {
 }
 
 // The stores after which a commit is stopped.
-#[derive(Drop)]
+#[derive(Clone, Copy)]
 pub enum Cut {
     Uncut,
     After(u32),
 }
 
 // What became of the transaction of a refused call: open; closed; poisoned and undone; poisoned and standing.
-#[derive(Drop)]
+#[derive(Clone, Copy)]
 pub enum Fate {
     Open,
     Closed,
@@ -268,7 +268,7 @@ pub enum Fate {
 
 // What a conflict met: a busy guard, or the first entry that conflicts of the test that said yes, by its place. Test 11's place 0 is index_conflict,
 // and the index reads follow from 1; 12 and 14 count in the write list, 13 in the read list, from 0.
-#[derive(Drop)]
+#[derive(Clone, Copy)]
 pub enum Cause {
     BusyGuard,
     IndexReadAt(usize),
@@ -279,7 +279,7 @@ pub enum Cause {
 
 // Each refusal carries its fate inside it, and a conflict its cause too. `Done`, number 0, is none; the crate `rules` gives the others their numbers,
 // 1 to 28 in this order, and 31 to the last.
-#[derive(Drop)]
+#[derive(Clone, Copy)]
 pub enum Refusal {
     Done,
     NotResting(Fate),
@@ -314,7 +314,7 @@ pub enum Refusal {
 }
 
 // Source 002's CommitRecord: the txid and its final writes.
-#[derive(Drop)]
+#[derive(Clone, Copy)]
 pub struct Record {
     pub txid: Txid,
     pub writes: [Write; Tx::WRITES],
@@ -322,7 +322,7 @@ pub struct Record {
 }
 
 // Source 000's Events.
-#[derive(Drop)]
+#[derive(Clone, Copy)]
 pub struct Events {
     pub index_locked: bool,
     pub partition_locked: bool,
