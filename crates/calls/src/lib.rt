@@ -1,6 +1,8 @@
 // The calls beside commit and recovery: each takes the store by value, reads it through lent fields, and changes it by one pass over a
 // journal of the puts that it plans.
 
+#![tactic(auto)]
+
 pub mod abort;
 pub mod begin;
 pub mod lock;

@@ -1,5 +1,7 @@
 // Commit: the admission, the gate that ends the run, its stores as one journal, and the answer.
 
+#![tactic(auto)]
+
 ghost use Rattle.std.specs.Prelude.{◌≡◌};
 ghost use Rattle.rules.specs.Answer.{commit};
 

@@ -1,6 +1,8 @@
 // The demands as contracts of code: what crate `demands` proves of the definitions, said of what runs. The lengths and the key width that the
 // theorems ask of a store are those of its type.
 
+#![tactic(auto)]
+
 ghost use Rattle.std.specs.Prelude.{◌≡◌, true, List, ◌↔◌, ◌≢◌, ℕ, ◌≤◌, ◌<◌, length};
 ghost use Rattle.records.specs.Limits.{rows, read_limit, clock_end, last_minute};
 ghost use Rattle.records.specs.Zero.{no_faults};

@@ -1,6 +1,8 @@
 // A fault at every step with every letter, alone and joined by one at 21, 23 and 24, and every cut of each: what commit answers, and what
 // recovery shows after it. docs/DECISIONS.md says how the file stdout was compared.
 
+#![tactic(auto)]
+
 mod bench;
 mod cuts;
 mod fate;

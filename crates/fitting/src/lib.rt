@@ -1,4 +1,6 @@
 // Which transactions and schedules fit, each test held to its definition in the crate `rules`.
 
+#![tactic(auto)]
+
 pub mod schedule;
 pub mod tx;

@@ -1,6 +1,8 @@
 // The calls with the store lent and changed in place: each takes the store out, calls the value-form core and stores its result back.
 // Read and lookup change nothing, so they take it lent by `&`. Proved by hand: proofs/Walk.antt and proofs/Look.antt say what is shared.
 
+#![tactic(auto)]
+
 ghost use Rattle.std.specs.Prelude.{◌≡◌};
 ghost use Rattle.rules.specs.Calls.{begin, read, write, lookup, row_lock, abort};
 ghost use Rattle.rules.specs.Answer.{commit};

@@ -1,5 +1,7 @@
 // The journal: the puts that a call plans, two words each in a lent array, and the one pass that applies them to a store.
 
+#![tactic(auto)]
+
 ghost use Rattle.std.specs.Prelude.{◌≡◌, ◌+◌, ◌<◌, min, length, set};
 ghost use Rattle.rules.specs.Puts.{put, apply_all};
 ghost use Rattle.journal.specs.Journal.{Pushed, puts, put_limit};

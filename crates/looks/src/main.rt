@@ -1,5 +1,7 @@
 // How many looks at the postings it takes to find a place among them, from the front and by halving. docs/SEARCH.md has the table.
 
+#![tactic(auto)]
+
 mod print;
 mod tally;
 

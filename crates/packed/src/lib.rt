@@ -1,5 +1,7 @@
 // Numbers at the front of a slice, zeros behind them: postings and active txids.
 
+#![tactic(auto)]
+
 ghost use Rattle.std.specs.Prelude.{◌≡◌, [], ◌∷◌, ◌++◌, ◌≤◌, length, take};
 ghost use Rattle.std.proofs.Math.Seq.{slice};
 ghost use Rattle.rules.specs.Lists.{into, without, pad, before_zero};

@@ -1,6 +1,8 @@
 // The store, the transaction, the schedule and the answers, in the forms that document 01 names ("Where each form goes").
 // What the calls do with them stands in the crate `rules`.
 
+#![tactic(auto)]
+
 ghost use Rattle.std.specs.Prelude.{◌≡◌};
 ghost use Rattle.records.specs.Zero.{fresh, zero_tx, no_faults};
 

@@ -1,5 +1,7 @@
 // Recovery: any repairable store is mended, any other comes back as it is.
 
+#![tactic(auto)]
+
 ghost use Rattle.std.specs.Prelude.{◌≡◌};
 ghost use Rattle.rules.specs.Recovery.{recovered, recover};
 

@@ -1,6 +1,8 @@
 // Replays the scripts that its arguments name, one after the other, each from a fresh store; the answers go to standard output. `-` is
 // standard input, as it is with no argument.
 
+#![tactic(auto)]
+
 mod stream;
 
 use stream::{replay_all, replay_file};

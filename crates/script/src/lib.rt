@@ -1,5 +1,7 @@
 // The lines of the replay script, taken apart, and the answer lines ("Replay" of document 01). Bytes come and go as slices and values.
 
+#![tactic(auto)]
+
 mod field;
 mod form;
 pub mod print;

@@ -2,6 +2,8 @@
 // transaction by value, and answers what its definition in the crate `rules` says, on every input. Nothing is known of the length of a lent array's
 // list, so a contract reads it through `array`.
 
+#![tactic(auto)]
+
 ghost use Rattle.std.specs.Prelude.{◌≡◌};
 ghost use Rattle.rules.specs.Transaction.{sees};
 ghost use Rattle.fields.specs.Lent.{at_active};
