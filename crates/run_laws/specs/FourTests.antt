@@ -1,7 +1,7 @@
 -- The four tests of commit say yes exactly where the paper's sentences hold.
 use Rattle.std.specs.Prelude.{◌≡◌, refl, ◌↔◌, ◌≢◌, ◌⊎◌, Bool, true, false, not, cond, ◌&&◌, ◌||◌, List, [], ◌∷◌, ℕ, get_or, eqb}
 use Rattle.std.proofs.Common.{inl, inr, ⊎_elim, eqb-true, ne_eqb, leb-true, le-leb}
-use Rattle.std.proofs.Math.Logic.{Iff·rfl, Iff·trans, Iff·and}
+use Rattle.std.proofs.Math.Logic.Iff
 use Rattle.std.proofs.lemmas.Bool.{false≢true, eqb-false, not-true}
 use Rattle.std.proofs.Math.Bool.{and-eq-true_iff}
 use Rattle.basic_laws.specs.Cases.{by, or_false}
@@ -19,7 +19,7 @@ either true b p q = (λ t. inl (p.0 refl), λ s. refl)
 either false b p q = (λ t. inr (q.0 t), ⊎_elim (λ x. absurd (false≢true (p.1 x))) q.1)
 
 pub both : {P Q : Type 0} (a b : Bool) → (a ≡ true) ↔ P → (b ≡ true) ↔ Q → ((a && b) ≡ true) ↔ (P × Q)
-both a b p q = Iff·trans (and-eq-true_iff a b) (Iff·and p q)
+both a b p q = Iff.trans (and-eq-true_iff a b) (Iff.and p q)
 
 neither : {P Q : Type 0} (a b : Bool) → (not a ≡ true) ↔ P → (not b ≡ true) ↔ Q → (not (a || b) ≡ true) ↔ (P × Q)
 neither true b p q = (λ t. absurd (false≢true t), λ s. p.1 s.0)
@@ -36,12 +36,12 @@ differ m n = (λ t. eqb-false m n (not-true (eqb m n) t), λ d. rw (ne_eqb m n d
 pub index_reads_say : (S : Store) (x : Tx) → (index_read_conflict S x ≡ true)
     ↔ ((x.index_conflict ≡ true) ⊎ Some (λ e. get_or S.stamps e.stripe 0 ≢ e.stamp.0) (index_reads_of x))
 unfolding index_read_conflict
-index_reads_say S x = either _ _ Iff·rfl (some _ _ (λ e. differ _ _) (index_reads_of x))
+index_reads_say S x = either _ _ Iff.rfl (some _ _ (λ e. differ _ _) (index_reads_of x))
 
 -- "12 a written row's head has a live lock of another": of one write, and of them all
 pub head_locked_says : (S : Store) (x : Tx) (w : Write) → (head_locked S x w ≡ true) ↔ LockedByAnother S x.txid.0 (get_or S.heads w.row.0 0)
 unfolding locked_by_another
-head_locked_says S x w = both _ _ Iff·rfl (both _ _ (differ _ _) Iff·rfl)
+head_locked_says S x w = both _ _ Iff.rfl (both _ _ (differ _ _) Iff.rfl)
 
 pub row_locks_say : (S : Store) (x : Tx) → (row_lock_conflict S x ≡ true)
     ↔ Some (λ w. LockedByAnother S x.txid.0 (get_or S.heads w.row.0 0)) (writes_of x)
@@ -59,7 +59,7 @@ pub version_says : (S : Store) (x : Tx) (e : ReadRecord) → (version_conflict S
 version_says S x e =
     let b = get_or S.xmax e.ptr.0 0 in
     either _ _ (differ _ _)
-    (both _ _ (neither (eqb b 0) (eqb b x.txid.0) (differ _ _) (differ _ _)) (either _ _ (leb-true _ _, le-leb _ _) Iff·rfl))
+    (both _ _ (neither (eqb b 0) (eqb b x.txid.0) (differ _ _) (differ _ _)) (either _ _ (leb-true _ _, le-leb _ _) Iff.rfl))
 
 pub read_says : (S : Store) (x : Tx) (e : ReadRecord) → (read_conflict S x e ≡ true) ↔ Stale S x e
 unfolding read_conflict

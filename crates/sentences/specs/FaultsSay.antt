@@ -1,6 +1,6 @@
 -- "Steps and faults": which faults of a schedule strike.
 use Rattle.std.specs.Prelude.{◌≡◌, refl, true, not, List, [], ◌∷◌, ◌⊎◌, ℕ, eqb}
-use Rattle.std.proofs.Common.{sym, ap, ◌∙◌, inl, inr, ⊎_elim, eqb-true, eq-eqb}
+use Rattle.std.proofs.Common.{sym, ap, subst, ◌∙◌, inl, inr, ⊎_elim, eqb-true, eq-eqb}
 use Rattle.std.proofs.lemmas.Bool.{not-true}
 use Rattle.basic_laws.specs.Cases.{by, clash, and_true}
 use Rattle.records.specs.Zero.{no_fault}
@@ -39,7 +39,8 @@ finds : (n : ℕ) (fs : List Fault) → (fault_at n fs ≡ no_fault) ⊎ Some (�
 finds n [] = inl refl
 finds n (f ∷ fs) = by (eqb f.step n)
     (λ e. rw e (inr (inl (eqb-true f.step n e, refl))))
-    (λ e. rw e (⊎_elim (λ g. inl g) (λ g. inr (inr g)) (finds n fs)))
+    (λ e. let w : fault_at n (f ∷ fs) ≡ fault_at n fs = rw e in
+    subst (λ y. (y ≡ no_fault) ⊎ Some (λ g. (g.step ≡ n) × (g ≡ y)) (f ∷ fs)) (sym w) (⊎_elim (λ g. inl g) (λ g. inr (inr g)) (finds n fs)))
 
 -- "any fault strikes .., and never at a step not reached"; "k after k stores"
 pub faults_say : FaultsSay

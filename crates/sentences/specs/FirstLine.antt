@@ -1,11 +1,11 @@
 -- "The first that applies": what a list of tries answers, as a table of numbers, fates and tests.
-use Rattle.std.specs.Prelude.{◌≡◌, refl, Bool, true, false, not, cond, ◌&&◌, List, [], ◌∷◌, ◌++◌, map, ◌↔◌, ◌⊎◌, ℕ, eqb}
-use Rattle.std.proofs.Common.{sym, ap, ◌∙◌, inl, inr, eqb-true, eq-eqb}
+use Rattle.std.specs.Prelude.{◌≡◌, refl, Bool, true, false, not, cond, ◌&&◌, List, [], ◌∷◌, ◌++◌, map, ◌⊎◌, ℕ, eqb}
+use Rattle.std.proofs.Common.{sym, ap, subst, ◌∙◌, inl, inr, eqb-true, eq-eqb}
 use Rattle.std.proofs.lemmas.Bool.{eqb-false, not-true}
 use Rattle.rules.specs.Lists.{all, memb}
 use Rattle.rules.specs.Types.{Refusal}
 use Rattle.rules.specs.Numbers.{number_of, Try, refuse, tries, is_done}
-use Rattle.statements.specs.Table.{Line, line, Told, None}
+use Rattle.statements.specs.Table.{Line, Told, None}
 use Rattle.basic_laws.specs.Cases.{by, clash, and_true, and_both, or_false, mem_here, mem_there, none_more, none_less}
 use Rattle.basic_laws.specs.Rising.{unique}
 
@@ -43,8 +43,10 @@ given (l ∷ ls) h =
     let n = numbered_cons l ls h in
     let r = given ls n.2 in
     by l.when
-    (λ e. rw (e, n.0) (mem_here l.number (numbers_of ls)))
-    (λ e. rw e (mem_there (number_of (tries (tries_of ls))) l.number (numbers_of ls) r))
+    (λ e. let w : number_of (tries (tries_of (l ∷ ls))) ≡ l.number = rw e n.0 in
+    subst (λ y. memb y (l.number ∷ numbers_of ls) ≡ true) (sym w) (mem_here l.number (numbers_of ls)))
+    (λ e. let w : number_of (tries (tries_of (l ∷ ls))) ≡ number_of (tries (tries_of ls)) = rw e in
+    subst (λ y. memb y (l.number ∷ numbers_of ls) ≡ true) (sym w) (mem_there (number_of (tries (tries_of ls))) l.number (numbers_of ls) r))
 
 -- where the tries stand: nothing before applied, and what is left decides; or something did, and no number of those left is given
 abbrev Stand : Refusal → List Bool → List Line → Type 0

@@ -1,7 +1,7 @@
 -- "Steps and faults": final writes, changes, guards, publication, recycling, stamps; what is in each list, and in which order.
 use Rattle.std.specs.Prelude.{◌≡◌, true, cond, ◌&&◌, ◌≢◌, ◌⊎◌, ◌↔◌, length, get_or, take, ltb, leb}
 use Rattle.std.proofs.Math.Path.{refl}
-use Rattle.std.proofs.Common.{sym, ap, ◌∙◌, arith, ext_get_or}
+use Rattle.std.proofs.Common.{sym, ap, subst, ◌∙◌, arith, ext_get_or}
 use Rattle.std.proofs.Math.Bool.{Bool, false, not}
 use mathlib.Core.List.{List, [], ◌∷◌, ◌++◌, map, reverse, reverse-cons, map-append, append_assoc, append-nil}
 use Rattle.std.proofs.Math.Logic.{inl, inr, ⊎_elim}
@@ -394,7 +394,7 @@ publication_says x = publishes x.txid.0 (finals x)
 leads_on : (next l : List ℕ) {p q : ℕ} → Leads next p q → IsChain next p l → memb q l ≡ true
 leads_on next [] (here pos) c = absurd (omega arith)
 leads_on next [] (along pos h) c = absurd (omega arith)
-leads_on next (x ∷ l) (here pos) c = rw c.0 (mem_here x l)
+leads_on next (x ∷ l) (here pos) c = subst (λ y. memb y (x ∷ l) ≡ true) (sym c.0) (mem_here x l)
 leads_on next (x ∷ l) {q = q} (along pos h) c = mem_there q x l (leads_on next l h (rw c.0 c.3))
 
 on_leads : (next l : List ℕ) (p q : ℕ) → IsChain next p l → memb q l ≡ true → Leads next p q
