@@ -11,7 +11,7 @@ use Rattle.rules.specs.Store.{used, used_slots, value_at, active_txids, active_i
 use Rattle.rules.specs.Chains.{chain_from, walk, on}
 use Rattle.rules.specs.Admitted.{finished, chain_ok, off_ok, repairable}
 use Rattle.basic_laws.specs.Cases.{by, clash, or_true, or_left, or_right, and_true, every_each, cons_every, every_none}
-use Rattle.basic_laws.specs.Members.{all_at, at_all, each_or, or_each, all_mem, mem_all, all_nonzero, nonzero_all}
+use Rattle.basic_laws.specs.Members.{all_at, at_all, each_or_law, or_each, all_mem, mem_all, all_nonzero, nonzero_all}
 use Rattle.basic_laws.specs.Chain.{chain_below}
 use Rattle.basic_laws.specs.Sound.{walk_is, rows_sound}
 use Rattle.basic_laws.specs.Chained.{Chains, Chained, walk_sound, walk_complete, chained_from}
@@ -103,7 +103,7 @@ form_slots S h =
       };
       absent = λ p n. blank_at (λ b. b) is_zero false 0 is_zero_law S.has S.key P.key p n;
       minute = λ p u. by (ltb p (length S.key))
-          (λ e. leb-true (get_or S.key p 0) last_minute (each_or is_zero (λ k. leb k last_minute) S.xmin S.key 0 0 P.minutes p
+          (λ e. leb-true (get_or S.key p 0) last_minute (each_or_law is_zero (λ k. leb k last_minute) S.xmin S.key 0 0 P.minutes p
           (ltb-true p (length S.key) e) (ne_eqb (get_or S.xmin p 0) 0 (λ z. omega (arith, z)))))
           (λ e. rw (get_or-eq_default S.key 0 (ltb-false p (length S.key) e)) (omega arith));
     }
@@ -167,7 +167,7 @@ module _ (heads xmin xmax next : List ℕ) (f : ℕ → Bool) (L : ℕ → List 
     chains = C.stand;
     led =
         λ r x lt m. ltb-true 0 (get_or xmin x 0)
-        (each_or is_zero nonzero seen xmin 0 0 led x (marked_below r x lt m) (not-true (is_zero (get_or seen x 0)) (C.marked r x lt m)));
+        (each_or_law is_zero nonzero seen xmin 0 0 led x (marked_below r x lt m) (not-true (is_zero (get_or seen x 0)) (C.marked r x lt m)));
     versions =
         λ r lt. chain_ok_law xmin xmax f (L r)
         (rw (chained_from heads next seen L C r lt) at (all_at (λ h. chain_ok xmin xmax f (chain_from places next h)) heads versions r 0 lt));

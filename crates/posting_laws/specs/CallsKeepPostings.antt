@@ -15,7 +15,7 @@ use Rattle.rules.specs.Puts.{k_next, k_key, k_lock, apply_all, take_slot, put_en
 use Rattle.rules.specs.Calls.{begin, write, row_lock, abort, lowest_free, base_of}
 use Rattle.rules.specs.Answer.{commit}
 use Rattle.run_laws.specs.OnlyKinds.{only, kept, is_not}
-use Rattle.basic_laws.specs.Members.{each_or}
+use Rattle.basic_laws.specs.Members.{each_or_law}
 use Rattle.statements.specs.Sized.{Sized}
 use Rattle.statements.specs.OtherNumbers.{write_lines}
 use Rattle.sentences.specs.FirstLine.{none_applies, either}
@@ -100,7 +100,7 @@ free_no_head S sized r n =
     by (memb p S.heads)
     (λ m. let d = mendable S r in
     let mark = not-true (eqb (get_or seen p 0) 0) (head_seen S.heads S.next p sized.next d.walked (eqb-false p 0 n) m) in
-    clash (each_or is_zero nonzero seen xmin 0 0 d.led p low mark) (rw zero_there))
+    clash (each_or_law is_zero nonzero seen xmin 0 0 d.led p low mark) (rw zero_there))
     (λ e. e)
 
 -- a version put into a slot that is no head

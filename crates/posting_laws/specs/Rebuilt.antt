@@ -14,7 +14,7 @@ use Rattle.rules.specs.Store.{posting, used, slots_in_form, postings_of, posting
 use Rattle.rules.specs.Chains.{walk, on}
 use Rattle.rules.specs.Admitted.{finished, head_postings}
 use Rattle.rules.specs.Recovery.{trim_head, recovered}
-use Rattle.basic_laws.specs.Members.{each_or}
+use Rattle.basic_laws.specs.Members.{each_or_law}
 use Rattle.statements.specs.Sized.{Sized}
 use Rattle.basic_laws.specs.TestParts.{slots_parts}
 use Rattle.basic_laws.specs.AllOf.{all_get}
@@ -58,8 +58,8 @@ no_value S sized h =
     let has : get_or S.has 0 false ≡ false
     =
     not-true (get_or S.has 0 false)
-    (each_or nonzero not S.xmin S.has 0 false a.has 0 (omega (arith, sized.has)) (not-true (used S.xmin 0) a.first)) in
-    (has, eqb-true (get_or S.key 0 0) 0 (each_or (λ b. b) is_zero S.has S.key false 0 a.key 0 (omega (arith, sized.key)) has))
+    (each_or_law nonzero not S.xmin S.has 0 false a.has 0 (omega (arith, sized.has)) (not-true (used S.xmin 0) a.first)) in
+    (has, eqb-true (get_or S.key 0 0) 0 (each_or_law (λ b. b) is_zero S.has S.key false 0 a.key 0 (omega (arith, sized.key)) has))
 
 -- the heads of the recovered store
 abbrev pub trimmed : Store → List ℕ
