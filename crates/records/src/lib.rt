@@ -52,7 +52,7 @@ impl Value {
 
 // A slot's fields stand in seven arrays at the slot's place: a free slot is all zero, and so is place 0. The posting (key, row) is
 // the number key * ROWS + row, so that rising numbers are rising postings. Active txids stand before the first 0.
-#[derive(Drop)]
+#[derive(Clone, Copy)]
 pub struct Store {
     pub heads: [u32; RowId::ROWS],
     pub xmin: [u64; SlotPtr::PLACES],
@@ -152,7 +152,7 @@ impl IndexRead {
 }
 
 // 002's fields (snapshot_active, write_set, read_set) plus 000's index reads, index_conflict and savepoints; a Vec is an array and a count.
-#[derive(Drop)]
+#[derive(Clone, Copy)]
 pub struct Tx {
     pub txid: Txid,
     pub snapshot_xmin: Txid,
@@ -351,7 +351,7 @@ pub struct Events {
 }
 
 // What commit answers.
-#[derive(Drop)]
+#[derive(Clone, Copy)]
 pub struct Answer {
     pub refusal: Refusal,
     pub record: Record,
@@ -362,7 +362,7 @@ pub struct Answer {
 }
 
 // What begin, row lock and abort answer.
-#[derive(Drop)]
+#[derive(Clone, Copy)]
 pub struct Reply {
     pub refusal: Refusal,
     pub store: Store,
@@ -370,7 +370,7 @@ pub struct Reply {
 }
 
 // What read answers.
-#[derive(Drop)]
+#[derive(Clone, Copy)]
 pub struct Seen {
     pub refusal: Refusal,
     pub value: Value,
@@ -378,7 +378,7 @@ pub struct Seen {
 }
 
 // What write answers.
-#[derive(Drop)]
+#[derive(Clone, Copy)]
 pub struct Written {
     pub refusal: Refusal,
     pub slot: SlotPtr,
@@ -387,7 +387,7 @@ pub struct Written {
 }
 
 // What lookup answers: the rows are the first `count` places.
-#[derive(Drop)]
+#[derive(Clone, Copy)]
 pub struct Found {
     pub refusal: Refusal,
     pub rows: [RowId; RowId::ROWS],
@@ -396,7 +396,7 @@ pub struct Found {
 }
 
 // What recovery answers.
-#[derive(Drop)]
+#[derive(Clone, Copy)]
 pub struct Mended {
     pub refusal: Refusal,
     pub store: Store,
