@@ -115,9 +115,9 @@ module _ (S : Store) (x : Tx) (logged : Bool) (plan : Schedule) where
   of_some = length-take (count S x logged plan 15) (whole S x logged plan)
 
   -- one number after the other
-  step_counts : Along (step_rows S x logged plan) (step_counts S x logged plan)
+  step_counts_law : Along (step_rows S x logged plan) (step_counts S x logged plan)
   unfolding step_rows step_counts
-  step_counts =
+  step_counts_law =
       let i15 = of_k 15 (insertions S x) (i S x logged plan) of_i in
       let n24 = of_24 (whole S x logged plan) (i S x logged plan) refl in
       let m24 = of_24 (some S x logged plan) (k S x logged plan 15 (i S x logged plan)) of_some in
@@ -154,7 +154,7 @@ module _ (S : Store) (x : Tx) (logged : Bool) (plan : Schedule) where
 
   -- each row makes as many stores as the letters beside it say
   pub counted : Counted S x logged plan
-  counted = (step_counts.all, clean_count_law)
+  counted = (step_counts_law.all, clean_count_law)
 
   -- and so does every commit that comes to the steps and isn't cut
   pub commit_counted : Admitted S x plan
@@ -162,4 +162,4 @@ module _ (S : Store) (x : Tx) (logged : Bool) (plan : Schedule) where
   unfolding uncut
   commit_counted ok =
       ap (λ (a : Answer). a.stores) (admitted S x logged plan Uncut ok) ∙ ap length (run_says S x logged plan).makes
-      ∙ step_counts.first (done_row S x logged plan) ∙ ap (beside (step_rows S x logged plan) (step_counts S x logged plan)) clean_count_law
+      ∙ step_counts_law.first (done_row S x logged plan) ∙ ap (beside (step_rows S x logged plan) (step_counts S x logged plan)) clean_count_law
