@@ -5,14 +5,13 @@ use Rattle.rules.specs.Types.{Store, Tx, Schedule, Events, Fate, Refusal}
 use Rattle.rules.specs.Admitted.{resting}
 use Rattle.rules.specs.Puts.{Put, put_poison, apply, apply_all}
 use Rattle.rules.specs.Commit.{End, Clean, Run, poison, fails}
-use Rattle.run_laws.specs.OnlyKinds.{only}
 use Rattle.run_laws.specs.GuardPuts.{apply_all_append}
 use Rattle.run_laws.specs.Outcome.{Taken}
 use Rattle.run_laws.specs.FirstRows.{given_back}
 use Rattle.run_laws.specs.Gates.{Gate, first, stay_end, abort_end, dying}
 use Rattle.sentences.specs.RunSays.{abort_failed, abort_done}
 use Rattle.statements.specs.Table.{Row, row, first_row}
-use Rattle.statements.specs.NumbersSeen.{poisoned, aborted, stays, unaborted, aborts}
+use Rattle.statements.specs.NumbersSeen.{stays, unaborted, aborts}
 
 -- "Poisoning a poisoned store makes no store."
 poison_once : (T : Store) → apply_all (poison T.poisoned) T ≡ apply put_poison T

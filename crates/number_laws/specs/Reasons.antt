@@ -1,5 +1,5 @@
 -- "Numbers seen", the column "When": a number is answered for one of its reasons in that column, on every commit.
-use Rattle.std.specs.Prelude.{◌≡◌, refl, Bool, true, false, ◌&&◌, ◌||◌, ℕ, get_or}
+use Rattle.std.specs.Prelude.{◌≡◌, Bool, true, false, ◌&&◌, ◌||◌, ℕ, get_or}
 use Rattle.std.proofs.Common.{ap, ◌∙◌, ⊎_elim}
 use Rattle.rules.specs.Types.{Store, Tx, Schedule, Cut}
 use Rattle.basic_laws.specs.Cases.{clash, and_true, and_both, or_left, or_right}

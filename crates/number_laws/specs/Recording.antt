@@ -1,5 +1,4 @@
 -- "The record is zero unless 0", place by place.
-use Rattle.std.specs.Prelude.{◌≡◌}
 use Rattle.std.proofs.Common.{eq-eqb, ne_eqb}
 use Rattle.rules.specs.Types.{Tx, Refusal}
 use Rattle.rules.specs.Numbers.{number_of}

@@ -1,10 +1,9 @@
 -- A table of numbers, as "Numbers seen" is one: the first row that applies says what is answered. When each number is given, read off it.
 use Rattle.std.specs.Prelude.{◌≡◌, refl, Bool, true, false, cond, List, [], ◌∷◌, ◌++◌, ◌↔◌, ◌⊎◌, ℕ, eqb}
 use Rattle.std.proofs.Common.{sym, ◌∙◌, inl, inr, eqb-true}
-use Rattle.statements.specs.Table.{Row, row, first_row, Reason, None}
+use Rattle.statements.specs.Table.{Row, first_row, Reason, None}
 use Rattle.basic_laws.specs.Cases.{by, and_true, none_more, none_less}
 use Rattle.rules.specs.Lists.{all}
-use Rattle.rules.specs.Types.{Store, Tx, Refusal}
 use Rattle.rules.specs.Numbers.{number_of}
 
 -- each row's refusal has the row's number
