@@ -1,7 +1,7 @@
 -- Publication: after each of its puts the store is repairable and shows what it showed.
 use Rattle.std.specs.Prelude.{◌≡◌, Bool, not, cond, ◌||◌, ℕ, ◌<◌, length, get_or, set}
 use Rattle.std.proofs.Math.Path.{refl}
-use Rattle.std.proofs.Common.{sym, ap, ◌∙◌, inl, arith, length-set, get_or-set_same, get_or-set_other, eqb-true, eq-eqb}
+use Rattle.std.proofs.Common.{sym, subst, ap, ◌∙◌, inl, arith, length-set, get_or-set_same, get_or-set_other, eqb-true, eq-eqb}
 use Rattle.std.proofs.Math.Bool.{true, false}
 use mathlib.Core.List.{List, [], ◌∷◌, ◌++◌}
 use Rattle.std.proofs.Math.Dec.{eqb}
@@ -314,7 +314,8 @@ module _ (t : ℕ) (old : ℕ → Value) (act : List ℕ) (doom : ℕ) (key : Li
                 let o = or_false (eqb p slot) (memb p (new_pointers ws)) i.2 in
                 (off_moved p (eqb-false p slot o.0) i.0, i.1, o.1);
             mine = λ p o e. by (eqb p slot)
-                (λ k. clash (mem_here slot (O.L row')) (rw (eq-eqb row' row' refl, eqb-true p slot k) at (o row' (rw length-set O.ready.row))))
+                (λ k. clash (subst (λ y. memb y (slot ∷ O.L row') ≡ true) (sym (eqb-true p slot k)) (mem_here slot (O.L row')))
+                (rw (eq-eqb row' row' refl) at (o row' (rw length-set O.ready.row))))
                 (λ k. rw k at (O.mine p (off_before p o) e));
           }
 

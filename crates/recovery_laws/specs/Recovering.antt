@@ -1,5 +1,5 @@
 -- Theorem R: recovery of any repairable store.
-use Rattle.std.specs.Prelude.{◌≡◌, refl, Bool, true, ℕ, ◌<◌, eqb, ltb}
+use Rattle.std.specs.Prelude.{◌≡◌, refl, Bool, true, ℕ, ◌<◌, eqb}
 use Rattle.std.proofs.Math.Path.{sym, ap}
 use Rattle.std.proofs.Common.{◌∙◌, inl, arith, eqb-true}
 use Rattle.std.proofs.Math.Bool.{false}
@@ -7,13 +7,13 @@ use mathlib.Core.List.{List, [], ◌∷◌, map}
 use Rattle.std.proofs.Math.ListN.{length, get_or, replicate, length-replicate, get_or-map}
 use Rattle.std.proofs.lemmas.List.{length-map}
 use Rattle.std.proofs.lemmas.Bool.{eqb-false}
-use Rattle.records.specs.Limits.{rows, places, posting_limit, stripes, partitions, active_limit, key_end}
+use Rattle.records.specs.Limits.{places, posting_limit, stripes, partitions, active_limit}
 use Rattle.records.specs.Relations.{rows_posted}
 use Rattle.rules.specs.Lists.{all, memb, keep, pad}
 use Rattle.rules.specs.Types.{Store}
-use Rattle.rules.specs.Store.{used, value_at, postings_of, active_txids}
+use Rattle.rules.specs.Store.{value_at, postings_of}
 use Rattle.rules.specs.Chains.{walk, on}
-use Rattle.rules.specs.Admitted.{finished, head_postings, repairable, resting}
+use Rattle.rules.specs.Admitted.{finished, head_postings, repairable}
 use Rattle.rules.specs.Recovery.{trim_head, clear, recovered}
 use Rattle.basic_laws.specs.Cases.{by, clash, iff, mem_here, mem_there}
 use Rattle.basic_laws.specs.LaidOut.{pad_length, take_pad}

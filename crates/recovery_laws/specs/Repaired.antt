@@ -1,6 +1,6 @@
 -- Recovery in words, row by row and slot by slot: what it removes, clears and frees, and that everything else stays.
 use Rattle.std.specs.Prelude.{◌≡◌, refl, Bool, true, List, [], ◌∷◌, ◌≢◌, ◌↔◌, ℕ, zero, suc, ◌+◌, ◌<◌, length, get_or, set, eqb}
-use Rattle.std.proofs.Common.{sym, ◌∙◌, inr, arith, get_or-set_other, eqb-true, eq-eqb, ne_eqb}
+use Rattle.std.proofs.Common.{sym, subst, ◌∙◌, inr, arith, get_or-set_other, eqb-true, eq-eqb, ne_eqb}
 use Rattle.std.proofs.Math.Bool.{false}
 use Rattle.std.proofs.lemmas.List.{length-replicate}
 use Rattle.std.proofs.Math.ListN.{get_or-map}
@@ -35,7 +35,7 @@ chain_next : (ns : List ℕ) (h : ℕ) (l : List ℕ) (p : ℕ) → IsChain ns h
 chain_next ns h [] p c m n = clash {b = false} m refl
 chain_next ns h (x ∷ l) p c m n = or_true (eqb p x) (memb p l) m
     (λ e. let q = eqb-true p x e in
-    rw q (mem_there (get_or ns x 0) x l (chain_head ns (get_or ns x 0) l c.3 (λ k. n (rw q k)))))
+    subst (λ y. memb (get_or ns y 0) (x ∷ l) ≡ true) (sym q) (mem_there (get_or ns x 0) x l (chain_head ns (get_or ns x 0) l c.3 (λ k. n (rw q k)))))
     (λ e. mem_there (get_or ns p 0) x l (chain_next ns (get_or ns x 0) l p c.3 e n))
 
 -- and each of its slots is reached, if its first is

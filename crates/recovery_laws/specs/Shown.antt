@@ -1,10 +1,7 @@
 -- What a row shows: demand 3 compares it before a commit, at each cut of it, and after recovery.
-use Rattle.std.specs.Prelude.{◌≡◌, Bool, cond, List, [], ◌∷◌, ℕ, ◌<◌, length, get_or, eqb}
-use Rattle.records.specs.Limits.{places}
-use Rattle.rules.specs.Lists.{first_of}
-use Rattle.rules.specs.Types.{Store, Write, Value}
-use Rattle.rules.specs.Store.{value_at}
-use Rattle.rules.specs.Chains.{chain_from, walk}
+use Rattle.std.specs.Prelude.{◌≡◌, List, ℕ, ◌<◌, length}
+use Rattle.rules.specs.Types.{Store}
+use Rattle.rules.specs.Chains.{walk}
 use Rattle.rules.specs.Admitted.{finished}
 use Rattle.basic_laws.specs.Chained.{chained_from}
 use Rattle.statements.specs.Sized.{Sized}

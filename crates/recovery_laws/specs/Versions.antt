@@ -1,6 +1,6 @@
 -- The versions of a chain: what they depend on, and what is left of them once an unfinished first one is gone.
 use Rattle.std.specs.Prelude.{◌≡◌, refl, Bool, true, false, cond, List, [], ◌∷◌, ◌⊎◌, ℕ, get_or, eqb}
-use Rattle.std.proofs.Common.{sym, ◌∙◌, inl, inr, ⊎_elim, arith, eqb-true, ne_eqb}
+use Rattle.std.proofs.Common.{sym, subst, ◌∙◌, inl, inr, ⊎_elim, arith, eqb-true, ne_eqb}
 use Rattle.rules.specs.Lists.{memb, first_of}
 use Rattle.rules.specs.Recovery.{trim_head}
 use Rattle.basic_laws.specs.Cases.{by, clash, or_true, mem_here, mem_there}
@@ -90,8 +90,9 @@ first_in g [] = inl refl
 first_in g (x ∷ l) =
     let r = first_in g l in
     by (g x)
-    (λ e. rw e (inr (mem_here x l)))
-    (λ e. rw e (⊎_elim (λ k. inl k) (λ k. inr (mem_there (first_of g l) x l k)) r))
+    (λ e. let w : first_of g (x ∷ l) ≡ x = rw e in subst (λ y. (y ≡ 0) ⊎ (memb y (x ∷ l) ≡ true)) (sym w) (inr (mem_here x l)))
+    (λ e. let w : first_of g (x ∷ l) ≡ first_of g l = rw e in
+    subst (λ y. (y ≡ 0) ⊎ (memb y (x ∷ l) ≡ true)) (sym w) (⊎_elim (λ k. inl k) (λ k. inr (mem_there (first_of g l) x l k)) r))
 
 -- a good chain whose txids are all finished rests
 pub good_rests : (xmin xmax : List ℕ) (f : ℕ → Bool) (l : List ℕ) → ((x : ℕ) → memb x l ≡ true → f (get_or xmin x 0) ≡ true)
