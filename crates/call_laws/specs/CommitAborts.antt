@@ -1,5 +1,5 @@
 -- "Each abort that neither fault nor cut strikes truly frees and deregisters": the aborts inside commit.
-use Rattle.std.specs.Prelude.{◌≡◌, Bool, true, false, ◌||◌, ℕ, get_or, eqb}
+use Rattle.std.specs.Prelude.{◌≡◌, Bool, true, false, ◌||◌, ℕ, get_or}
 use Rattle.std.proofs.Math.Path.{refl, sym}
 use Rattle.std.proofs.Common.{ap, ◌∙◌, arith}
 use Rattle.std.proofs.Math.Bool.{cond}
@@ -10,7 +10,6 @@ use Rattle.basic_laws.specs.Cases.{clash}
 use Rattle.rules.specs.Lists.{memb, pad}
 use Rattle.rules.specs.Types.{Store, Tx, Schedule, Cut}
 use Rattle.rules.specs.Store.{active_txids}
-use Rattle.rules.specs.Chains.{walk, on}
 use Rattle.rules.specs.Admitted.{resting}
 use Rattle.rules.specs.Numbers.{number_of}
 use Rattle.rules.specs.Puts.{Put, k_stripe, k_partition, k_insert, k_remove, k_xmax, k_free, k_drop, k_poison, k_enter, k_xmin}

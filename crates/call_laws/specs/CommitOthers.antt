@@ -2,7 +2,7 @@
 -- own, drop no txid but its own, and the slots that they bring onto chains are its own.
 use Rattle.std.specs.Prelude.{◌≡◌, Bool, false, not, ◌&&◌, ◌||◌, ◌⊎◌, ℕ, ◌<◌, length, get_or, set, take, ltb}
 use Rattle.std.proofs.Math.Path.{refl}
-use Rattle.std.proofs.Common.{sym, ap, ◌∙◌, inl, inr, ⊎_elim, arith, length-set, get_or-set_same, get_or-set_other, take_all}
+use Rattle.std.proofs.Common.{sym, subst, ap, ◌∙◌, inl, inr, ⊎_elim, arith, length-set, get_or-set_same, get_or-set_other, take_all}
 use Rattle.std.proofs.Math.Bool.{true}
 use mathlib.Core.List.{List, [], ◌∷◌, map}
 use Rattle.std.proofs.Math.ListN.{get_or-eq_default}
@@ -53,7 +53,7 @@ use Rattle.call_laws.specs.Keeps.{Keeps}
 chain_on : (ns : List ℕ) (p : ℕ) (l : List ℕ) (x : ℕ) → IsChain ns p l → memb x l ≡ true → (eqb (get_or ns x 0) 0 || memb (get_or ns x 0) l) ≡ true
 chain_on ns p [] x h m = clash {b = false} m refl
 chain_on ns p (y ∷ l) x h m = or_true (eqb x y) (memb x l) m
-    (λ e. rw (eqb-true x y e) (by (eqb (get_or ns y 0) 0)
+    (λ e. subst (λ z. (eqb (get_or ns z 0) 0 || memb (get_or ns z 0) (y ∷ l)) ≡ true) (sym (eqb-true x y e)) (by (eqb (get_or ns y 0) 0)
     (λ k. or_left (eqb (get_or ns y 0) 0) (memb (get_or ns y 0) (y ∷ l)) k)
     (λ k. or_right (eqb (get_or ns y 0) 0) (memb (get_or ns y 0) (y ∷ l))
     (mem_there (get_or ns y 0) y l (chain_head ns (get_or ns y 0) l h.3 (eqb-false (get_or ns y 0) 0 k))))))

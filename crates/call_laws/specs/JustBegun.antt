@@ -1,5 +1,5 @@
 -- A transaction just begun on an unpoisoned resting store: it reads each row's head, and a lookup finds the rows whose head has the key.
-use Rattle.std.specs.Prelude.{◌≡◌, Bool, true, false, cond, ◌&&◌, ◌||◌, ◌↔◌, ◌⊎◌, eqb}
+use Rattle.std.specs.Prelude.{◌≡◌, Bool, true, false, cond, ◌&&◌, ◌||◌, ◌↔◌, eqb}
 use Rattle.std.proofs.Math.Path.{refl, ap}
 use Rattle.std.proofs.Common.{sym, ◌∙◌, inl, inr, arith, length-append}
 use Rattle.std.proofs.Math.Bool.{not}

@@ -3,7 +3,8 @@ use Rattle.std.specs.Prelude.{◌≡◌, Bool, true, cond, ◌&&◌, List, ◌�
 use Rattle.std.proofs.Math.Path.{refl}
 use Rattle.std.proofs.Common.{sym, ap, subst, ◌∙◌, arith, eqb-true, eq-eqb, ltb-true, ltb-false}
 use Rattle.std.proofs.Math.Bool.{false}
-use Rattle.std.proofs.Math.Logic.{inl, inr, ⊎_elim, Iff·rfl}
+use Rattle.std.proofs.Math.Logic.{inl, inr, ⊎_elim}
+use Rattle.std.proofs.Math.Logic.Iff
 use Rattle.rules.specs.Types.{Store, Tx, Schedule, Answer, Cut, Uncut, Fate, Refusal, Cause, BusyGuard, Conflict}
 use Rattle.rules.specs.Faults.{B, faults_of, fault_at}
 use Rattle.rules.specs.Numbers.{number_of, More, nothing, cause, more_in, test_named, place_named}
@@ -120,7 +121,7 @@ neither_seven false failed kind f a b = b
 module _ (S : Store) (x : Tx) (logged : Bool) (plan : Schedule) where
   -- B strikes at 7 or at 8, in words
   busy_says : (guard_busy S x logged plan ≡ true) ↔ Busy S x logged plan
-  busy_says = either _ _ Iff·rfl Iff·rfl
+  busy_says = either _ _ Iff.rfl Iff.rfl
 
   -- a 7: of a busy guard, or of the first test that says yes; its abort failed or not
   data Seven : Refusal → Type 0 where
