@@ -3,7 +3,7 @@
 use Rattle.std.specs.Prelude.{◌≡◌, Bool, true, false, cond, ◌&&◌, List, [], ◌∷◌, ◌++◌, ◌↔◌, ℕ, ◌≤◌, ◌<◌, length, get_or}
 use Rattle.std.proofs.Math.Path.{refl}
 use Rattle.std.proofs.Common.{sym, ap, ◌∙◌, subst, arith, length-take, eqb-true, leb-true}
-use Rattle.records.specs.Limits.{rows, write_limit}
+use Rattle.records.specs.Limits.{write_limit}
 use Rattle.rules.specs.Lists.{memb, is_zero}
 use Rattle.rules.specs.Types.{Store, Tx, Schedule, Answer, Uncut}
 use Rattle.rules.specs.Store.{active_txids}

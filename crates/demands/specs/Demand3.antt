@@ -1,5 +1,5 @@
 -- Demand 3: stop a commit after any store, or fail or panic any step that may; then recover.
-use Rattle.std.specs.Prelude.{◌≡◌, refl, Bool, true, false, cond, ◌&&◌, ◌||◌, List, [], ◌∷◌, ℕ, ◌<◌, length, get_or, take, eqb, leb}
+use Rattle.std.specs.Prelude.{◌≡◌, refl, Bool, true, false, cond, ◌&&◌, ◌||◌, List, [], ◌∷◌, ℕ, ◌<◌, length, take, eqb, leb}
 use Rattle.std.proofs.Common.{sym, ◌∙◌, arith, leb-false}
 use Rattle.std.proofs.Math.Path.{ap}
 use Rattle.std.proofs.Math.Bool.{not}
@@ -7,7 +7,7 @@ use Rattle.std.proofs.Math.Seq.{take-length}
 use Rattle.std.proofs.lemmas.Bool.{lt-leb}
 use Rattle.records.specs.Limits.{rows}
 use Rattle.rules.specs.Lists.{memb}
-use Rattle.rules.specs.Types.{Store, Tx, Write, Schedule, Answer, Cut, Uncut, After, Value, Open, Closed, Refusal, Done, Unfit, NotActive}
+use Rattle.rules.specs.Types.{Store, Tx, Write, Schedule, Answer, Cut, Uncut, After, Value, Open, Closed, Refusal, Unfit, NotActive}
 use Rattle.rules.specs.Store.{value_at, active_txids}
 use Rattle.rules.specs.Transaction.{finals}
 use Rattle.rules.specs.Admitted.{repairable, resting}
@@ -21,7 +21,7 @@ use Rattle.basic_laws.specs.Cases.{by, and_true}
 use Rattle.run_laws.specs.Outcome.{unremoved, unpublished, unrecycled, unfinished, Outcome, done}
 use Rattle.run_laws.specs.Outcome.{stays, aborts, uninserted, uncalled, spoils, unstamped, outcome}
 use Rattle.statements.specs.Demands.{Demand3}
-use Rattle.statements.specs.Words.{before, survived, after, Safe, Admitted, shown, with_new, stands}
+use Rattle.statements.specs.Words.{before, survived, Safe, Admitted, shown, with_new, stands}
 use Rattle.run_laws.specs.FirstRows.{row_2, row_3, admitted, stay_not, abort_not, called_not}
 use Rattle.statements.specs.Sized.{Sized, Keyed}
 use Rattle.basic_laws.specs.TestParts.{resting_parts}

@@ -1,5 +1,5 @@
 -- A morning computed at the paper's stripes and partitions: which guards are held after some of a commit's stores, and which stripes are stamped.
-use Rattle.std.specs.Prelude.{◌≡◌, refl, false, List, [], ◌∷◌, ◌++◌, map, ℕ, ◌+◌, ◌-◌, get_or}
+use Rattle.std.specs.Prelude.{◌≡◌, refl, false, List, [], ◌∷◌, ◌++◌, map, ℕ, get_or}
 use Rattle.rules.specs.Lists.{flat, nonzero_from}
 use Rattle.rules.specs.Types.{Uncut, After, Key}
 use Rattle.rules.specs.Replay.{Line, line_b, line_r, line_w, line_l, line_c, start}
