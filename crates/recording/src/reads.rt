@@ -13,7 +13,7 @@ use visibility::chain::visible_version;
 use visibility::own::last_own;
 
 // A list of reads: its first ones in an array, and whether there are more than the array has places.
-#[derive(Drop)]
+#[derive(Clone, Copy)]
 pub struct ReadList {
     pub at: [ReadRecord; Tx::READS],
     pub count: usize,
