@@ -4,11 +4,7 @@ use native.Mathlib.Omega.{arith}
 use borrow.Author.Rules.{rules}
 use Rattle.records.specs.Limits.{stripes}
 use Rattle.fields.specs.Lent.{array_at}
-use Rattle.recording.proofs.stamps.stamp_of.Statement.{statement}
-use Rattle.recording.proofs.stamps.stamp_of.Tie as tie
+use Rattle.recording.proofs.stamps.stamp_of.Goals as goal
 
-returns : tie.Need-returns
+pub returns : goal.returns
 returns c = sym (array_at stripes 0 _ _ (omega arith))
-
-pub stamp_of_spec : {M : Type 1} → statement M
-stamp_of_spec = tie.close (tie.spec (λ c. search rules) (λ c. search rules) returns)
