@@ -1,0 +1,8 @@
+-- `value_at` meets its contract: by whether the slot has a key.
+use Rattle.visibility.proofs.slots.value_at.Goals as goal
+
+pub returns-then-flag_at : goal.returns-then-flag_at
+returns-then-flag_at c = rw (← c.flag_at.ensures, c.if-flag_at.true, ← c.key_at.ensures)
+
+pub returns-else-flag_at : goal.returns-else-flag_at
+returns-else-flag_at c = rw (← c.flag_at.ensures, c.if-flag_at.false)
