@@ -1,0 +1,12 @@
+-- `no_posting_from` meets its contract: the array has its length.
+use mathlib.Core.Path.{sym, ap, ◌∙◌}
+use lib.ListN.{drop}
+use borrow.Author.Rules.{rules}
+use Rattle.records.specs.Limits.{posting_limit}
+use Rattle.rules.specs.Lists.{all_zero}
+use Rattle.fields.specs.Lent.{array_same}
+use Rattle.resting.proofs.postings.no_posting_from.Goals as goal
+
+pub returns : goal.returns
+returns c =
+    c.zeros_from.ensures ∙ ap (λ l. all_zero (drop c.args.n l)) (sym (array_same posting_limit 0 _ (search rules)))
