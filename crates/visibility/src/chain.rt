@@ -13,10 +13,10 @@ pub fn visible_version<'a>(
     heads: &'a [u32; RowId::ROWS],
     next: &'a [u32; SlotPtr::PLACES],
     xmin: &'a [u64; SlotPtr::PLACES],
-    x: &'a Tx,
+    x: Tx,
     r: RowId,
 ) -> SlotPtr
-    ensures { result.0 ≡ visible_version (at_rows heads.now) (at_places next.now) (at_places xmin.now) x.now r.0 }
+    ensures { result.0 ≡ visible_version (at_rows heads.now) (at_places next.now) (at_places xmin.now) x r.0 }
 {
     let mut p = head_of(heads, r);
     let mut left = SlotPtr::PLACES;

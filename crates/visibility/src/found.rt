@@ -13,10 +13,10 @@ pub fn read_ptr<'a>(
     heads: &'a [u32; RowId::ROWS],
     next: &'a [u32; SlotPtr::PLACES],
     xmin: &'a [u64; SlotPtr::PLACES],
-    x: &'a Tx,
+    x: Tx,
     r: RowId,
 ) -> SlotPtr
-    ensures { result.0 ≡ read_ptr_of (at_rows heads.now) (at_places next.now) (at_places xmin.now) x.now r.0 }
+    ensures { result.0 ≡ read_ptr_of (at_rows heads.now) (at_places next.now) (at_places xmin.now) x r.0 }
 {
     let own = last_own(x, r);
     if own.new.0 == 0 {
@@ -31,10 +31,10 @@ pub fn base_of<'a>(
     heads: &'a [u32; RowId::ROWS],
     next: &'a [u32; SlotPtr::PLACES],
     xmin: &'a [u64; SlotPtr::PLACES],
-    x: &'a Tx,
+    x: Tx,
     r: RowId,
 ) -> SlotPtr
-    ensures { result.0 ≡ base_of_row (at_rows heads.now) (at_places next.now) (at_places xmin.now) x.now r.0 }
+    ensures { result.0 ≡ base_of_row (at_rows heads.now) (at_places next.now) (at_places xmin.now) x r.0 }
 {
     let last = last_own(x, r);
     if last.new.0 == 0 {

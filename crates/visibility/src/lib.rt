@@ -1,5 +1,5 @@
-// What a transaction sees: creators, versions of a row, its own writes, slots, the active list. Each function takes the store's arrays and the
-// transaction lent, and answers what its definition in the crate `rules` says, on every input. Nothing is known of the length of a lent array's
+// What a transaction sees: creators, versions of a row, its own writes, slots, the active list. Each function takes the store's arrays lent and the
+// transaction by value, and answers what its definition in the crate `rules` says, on every input. Nothing is known of the length of a lent array's
 // list, so a contract reads it through `array`.
 
 #![tactic(auto)]
@@ -33,8 +33,8 @@ fn sees_by(snapshot: &[u64; Txid::ACTIVE], count: usize, reader: Txid, end: Txid
 }
 
 // A creator is visible if it is the reader, or below snapshot_xmax and not in the snapshot.
-pub fn sees(x: &Tx, t: Txid) -> bool
-    ensures { result ≡ sees x.now t.0 }
+pub fn sees(x: Tx, t: Txid) -> bool
+    ensures { result ≡ sees x t.0 }
 {
     sees_by(&x.snapshot, x.snapshot_count, x.txid, x.snapshot_xmax, t)
 }

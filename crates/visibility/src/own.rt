@@ -7,17 +7,16 @@ use fields::lent::clipped;
 use records::{RowId, Tx, Write};
 
 // The last own write of a row; its new pointer is null if there is none.
-pub fn last_own(x: &Tx, r: RowId) -> Write
-    ensures { result ≡ last_own r.0 (writes_of x.now) }
+pub fn last_own(x: Tx, r: RowId) -> Write
+    ensures { result ≡ last_own r.0 (writes_of x) }
 {
-    let writes: &[Write] = &x.writes;
     let mut own = Write::NONE;
     let mut i = clipped(x.write_count, Tx::WRITES);
     while 0 < i {
         i -= 1;
         // an earlier write counts only as long as no later one has a slot
         if own.new.0 == 0 {
-            let w = writes[i];
+            let w = x.writes[i];
             if w.row.0 == r.0 {
                 own = w;
             } else {

@@ -8,6 +8,6 @@ use Rattle.visibility.proofs.sees.Goals as goal
 
 pub returns : goal.returns
 returns c =
-    let x = c.args.x.now in
+    let x = c.args.x in
     let long : length x.snapshot ≡ active_limit = search rules in
     sees_by_law x _ _ long c.sees_by.ensures

@@ -18,7 +18,7 @@ returns-then-p-eq0 c =
 
 pub returns-then-sees_by : goal.returns-then-sees_by
 returns-then-sees_by c =
-    let x = c.args.x.now in
+    let x = c.args.x in
     let long : length x.snapshot ≡ active_limit = search rules in
     let seen = sym (sees_by_law x _ _ long c.sees_by.ensures)
     ∙ c.if-sees_by.true in
@@ -27,7 +27,7 @@ returns-then-sees_by c =
 
 pub loop-left-preserved : goal.loop-left-preserved
 loop-left-preserved c =
-    let x = c.args.x.now in
+    let x = c.args.x in
     let long : length x.snapshot ≡ active_limit = search rules in
     let unseen =
     sym (sees_by_law x _ _ long c.sees_by.ensures)

@@ -12,27 +12,27 @@ use Rattle.visibility.proofs.own.last_own.Goals as goal
 
 pub loop-i-init : goal.loop-i-init
 loop-i-init c =
-    let x = c.args.x.now in
+    let x = c.args.x in
     let long : length x.writes ≡ write_limit = search rules in
     (omega arith, ap (last_own _) (sym (first_end x.write_count x.writes _ (omega arith))))
 
 pub loop-i-preserved-then-w-r : goal.loop-i-preserved-then-w-r
 loop-i-preserved-then-w-r c =
-    let x = c.args.x.now in
+    let x = c.args.x in
     let long : length x.writes ≡ write_limit = search rules in
     let next = first_back x.write_count x.writes c.loop-i.i no_write (omega arith) (omega arith) in
     (omega arith, own_here _ _ _ _ _ next c.loop-i.invariant.1 (omega arith) c.if-w-r.true)
 
 pub loop-i-preserved-else-w-r : goal.loop-i-preserved-else-w-r
 loop-i-preserved-else-w-r c =
-    let x = c.args.x.now in
+    let x = c.args.x in
     let long : length x.writes ≡ write_limit = search rules in
     let next = first_back x.write_count x.writes c.loop-i.i no_write (omega arith) (omega arith) in
     (omega arith, own_none _ _ _ _ _ next c.loop-i.invariant.1 (omega arith) c.if-w-r.false)
 
 pub loop-i-preserved : goal.loop-i-preserved
 loop-i-preserved c =
-    let x = c.args.x.now in
+    let x = c.args.x in
     let long : length x.writes ≡ write_limit = search rules in
     let next = first_back x.write_count x.writes c.loop-i.i no_write (omega arith) (omega arith) in
     (omega arith, own_later _ _ _ _ _ next c.loop-i.invariant.1 c.if-own-eq0.false)
