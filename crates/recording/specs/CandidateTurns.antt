@@ -4,7 +4,7 @@ use Rattle.std.proofs.Common.{sym, ap, ◌∙◌, add-zero, arith, eq-eqb, ne_eq
 use Rattle.std.proofs.Math.Seq.{set_out}
 use Rattle.records.specs.Limits.{rows, posting_limit}
 use Rattle.rules.specs.Lists.{all, rising, in_order}
-use Rattle.basic_laws.specs.Cases.{by, and_true, every_cons}
+use Rattle.basic_laws.specs.Cases.{and_true, every_cons}
 use Rattle.rules.specs.Types.{Store, Tx, Write}
 use Rattle.rules.specs.Store.{key_of, row_of, postings_of}
 use Rattle.rules.specs.Transaction.{writes_of}

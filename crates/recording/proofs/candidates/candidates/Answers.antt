@@ -1,5 +1,4 @@
 -- `candidates` meets its contract: the rows of own writes are marked after those of postings.
-use borrow.Author.Rules.{rules}
 use Rattle.fields.specs.Lent.{at_postings}
 use Rattle.recording.specs.CandidateTurns.{candidate_marks_law}
 use Rattle.recording.proofs.candidates.candidates.Goals as goal

@@ -1,16 +1,12 @@
 -- `own_rows` meets its contract: the own writes from place i on, marked besides those marked so far, make the marks of all.
-use mathlib.Core.Path.{◌≡◌, refl, sym, ◌∙◌}
+use mathlib.Core.Path.{◌≡◌}
 use Prim.Native.Nat.{◌-◌, ◌≤◌, min}
-use native.Mathlib.Omega.{arith}
 use lib.ListN.{length}
-use borrow.Author.Rules.{rules}
 use Rattle.records.specs.Limits.{rows, write_limit}
-use Rattle.records.specs.Zero.{no_write}
 use Rattle.rules.specs.Transaction.{writes_of}
-use Rattle.fields.specs.First.{first_from, first_next, first_end}
+use Rattle.fields.specs.First.{first_from}
 use Rattle.fields.specs.Marks.{mark_all}
-use Rattle.recording.specs.CandidateTurns.{own_rows, own_row, own_high}
-use Rattle.fields.proofs.Lengths.{writes_long}
+use Rattle.recording.specs.CandidateTurns.{own_rows}
 use Rattle.recording.proofs.candidates.own_rows.Given as goal
 
 abbrev pub invariant-loop-i : goal.invariant-loop-i

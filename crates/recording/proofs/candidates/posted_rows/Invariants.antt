@@ -1,15 +1,12 @@
 -- `posted_rows` meets its contract: the postings in front from place i on, marked besides those marked so far, make the marks of the walk.
-use mathlib.Core.Path.{◌≡◌, sym, ap, ◌∙◌}
+use mathlib.Core.Path.{◌≡◌}
 use Prim.Native.Nat.{◌-◌, min}
-use native.Mathlib.Omega.{arith}
-use borrow.Author.Rules.{rules}
 use Rattle.records.specs.Limits.{posting_limit}
 use Rattle.fields.specs.Lent.{at_postings}
-use Rattle.fields.specs.First.{first_from, lent_next, lent_end}
+use Rattle.fields.specs.First.{first_from}
 use Rattle.fields.specs.Marks.{mark_all}
-use Rattle.packed.specs.declared.halving.Place.{Place}
 use Rattle.recording.specs.MarkedRows.{no_rows}
-use Rattle.recording.specs.CandidateTurns.{rows_in_front, posted_rows, walk_starts, posting_of, posting_not}
+use Rattle.recording.specs.CandidateTurns.{rows_in_front, posted_rows}
 use Rattle.recording.proofs.candidates.posted_rows.Given as goal
 
 abbrev pub invariant-loop-i : goal.invariant-loop-i

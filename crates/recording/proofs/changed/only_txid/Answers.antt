@@ -1,5 +1,4 @@
 -- `only_txid` meets its contract: the zero transaction with its txid set.
-use borrow.Author.Rules.{rules}
 use Rattle.records.specs.Zero.{zero_tx, only_txid}
 use Rattle.recording.proofs.changed.only_txid.Goals as goal
 

@@ -1,14 +1,10 @@
 -- `with_write` meets its contract: the first i writes are laid out, then the new one if there is a place.
-use mathlib.Core.Path.{◌≡◌, refl}
+use mathlib.Core.Path.{◌≡◌}
 use Prim.Native.Nat.{◌-◌, ◌≤◌, min}
-use native.Mathlib.Omega.{arith}
 use lib.ListN.{take}
-use borrow.Author.Rules.{rules}
 use Rattle.records.specs.Limits.{write_limit}
 use Rattle.records.specs.Zero.{no_write}
 use Rattle.rules.specs.Lists.{pad}
-use Rattle.fields.specs.Pad.{pad_more, more_count, more_room, more_over}
-use Rattle.fields.proofs.Lengths.{writes_long}
 use Rattle.recording.proofs.changed.with_write.Given as goal
 
 abbrev pub invariant-loop-i : goal.invariant-loop-i

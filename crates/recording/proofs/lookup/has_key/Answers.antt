@@ -1,6 +1,5 @@
 -- `has_key` meets its contract: by whether the slot has a key.
 use mathlib.Core.Path.{sym, ◌∙◌}
-use borrow.Author.Rules.{rules}
 use Rattle.recording.proofs.lookup.has_key.Goals as goal
 
 pub returns-then-flag_at : goal.returns-then-flag_at

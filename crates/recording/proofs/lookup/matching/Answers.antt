@@ -1,12 +1,7 @@
 -- `matching` meets its contract: the rows found so far and those that match from r on are all that match.
-use Prim.Native.Nat.{◌-◌, ◌≤◌}
 use native.Mathlib.Omega.{arith}
-use borrow.Author.Rules.{rules}
-use Rattle.records.specs.Limits.{rows}
-use Rattle.fields.specs.Lent.{at_rows, at_places, flags_at_places, flags_at_rows}
-use Rattle.recording.specs.MarkedRows.{marked_rows, marked_at, marked_whole, marked_end, marked_yes, marked_no}
-use Rattle.recording.specs.LookupTurns.{matching_of}
-use Rattle.recording.specs.FoundRows.{Finding, none_found, not_found, found_one, all_found, matches_none, matches_yes, matches_not}
+use Rattle.recording.specs.MarkedRows.{marked_whole, marked_end, marked_yes, marked_no}
+use Rattle.recording.specs.FoundRows.{none_found, not_found, found_one, all_found, matches_none, matches_yes, matches_not}
 use Rattle.recording.proofs.lookup.matching.Goals as goal
 
 pub loop-r-init : goal.loop-r-init

@@ -1,16 +1,14 @@
 -- `record_marked` meets its contract: l holds the reads recorded so far, and those of the rows from i on make them all.
-use mathlib.Core.Path.{◌≡◌, sym, ap, ◌∙◌}
+use mathlib.Core.Path.{◌≡◌}
 use mathlib.Core.List.{List}
 use Prim.Native.Nat.{◌-◌, ◌≤◌}
-use native.Mathlib.Omega.{arith}
-use borrow.Author.Rules.{rules}
 use Rattle.records.specs.Limits.{rows}
 use Rattle.rules.specs.Types.{ReadRecord}
 use Rattle.rules.specs.Transaction.{reads_of}
 use Rattle.fields.specs.Lent.{at_rows, at_places, flags_at_rows}
-use Rattle.recording.specs.MarkedRows.{marked_rows, marked_at, marked_whole, marked_end, marked_yes, marked_no}
-use Rattle.recording.specs.ReadList.{laid, record_read_of}
-use Rattle.recording.specs.LookupTurns.{record_reads_of, records_none, records_next}
+use Rattle.recording.specs.MarkedRows.{marked_rows, marked_at}
+use Rattle.recording.specs.ReadList.{laid}
+use Rattle.recording.specs.LookupTurns.{record_reads_of}
 use Rattle.recording.proofs.lookup.record_marked.Given as goal
 
 abbrev pub invariant-loop-i : goal.invariant-loop-i

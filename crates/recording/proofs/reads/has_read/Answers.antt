@@ -1,13 +1,8 @@
 -- `has_read` meets its contract: such a read is among all if it is among those from the present place on.
-use mathlib.Core.Path.{◌≡◌, refl, sym, ap, ◌∙◌}
-use Prim.Native.Nat.{◌-◌, ◌≤◌, min}
+use mathlib.Core.Path.{refl, sym, ap, ◌∙◌}
 use native.Mathlib.Omega.{arith}
-use lib.ListN.{take}
-use borrow.Author.Rules.{rules}
-use Rattle.records.specs.Limits.{read_limit}
 use Rattle.records.specs.Zero.{no_read}
 use Rattle.rules.specs.Lists.{any}
-use Rattle.rules.specs.Calls.{same_read}
 use Rattle.fields.specs.First.{first_from, first_next, first_end, any_first, any_rest}
 use Rattle.recording.proofs.Long.{list_long}
 use Rattle.recording.proofs.reads.has_read.Goals as goal

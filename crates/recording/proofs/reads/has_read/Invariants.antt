@@ -1,15 +1,11 @@
 -- `has_read` meets its contract: such a read is among all if it is among those from the present place on.
-use mathlib.Core.Path.{◌≡◌, refl, sym, ap, ◌∙◌}
+use mathlib.Core.Path.{◌≡◌}
 use Prim.Native.Nat.{◌-◌, ◌≤◌, min}
-use native.Mathlib.Omega.{arith}
 use lib.ListN.{take}
-use borrow.Author.Rules.{rules}
 use Rattle.records.specs.Limits.{read_limit}
-use Rattle.records.specs.Zero.{no_read}
 use Rattle.rules.specs.Lists.{any}
 use Rattle.rules.specs.Calls.{same_read}
-use Rattle.fields.specs.First.{first_from, first_next, first_end, any_first, any_rest}
-use Rattle.recording.proofs.Long.{list_long}
+use Rattle.fields.specs.First.{first_from}
 use Rattle.recording.proofs.reads.has_read.Given as goal
 
 abbrev pub invariant-loop-i : goal.invariant-loop-i

@@ -1,5 +1,4 @@
 -- `push_read` meets its contract: by whether the array has a place left.
-use borrow.Author.Rules.{rules}
 use Rattle.recording.specs.ReadList.{push_room, push_over}
 use Rattle.recording.proofs.reads.push_read.Goals as goal
 

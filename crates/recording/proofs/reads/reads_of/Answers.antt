@@ -1,12 +1,8 @@
 -- `reads_of` meets its contract: the first i reads are laid out.
 use mathlib.Core.Path.{◌≡◌, refl}
-use Prim.Native.Nat.{◌-◌, ◌≤◌, min}
 use native.Mathlib.Omega.{arith}
-use lib.ListN.{take}
-use borrow.Author.Rules.{rules}
 use Rattle.records.specs.Limits.{read_limit}
 use Rattle.records.specs.Zero.{no_read}
-use Rattle.rules.specs.Lists.{pad}
 use Rattle.fields.specs.Pad.{pad_more}
 use Rattle.recording.specs.ReadList.{laid_first}
 use Rattle.fields.proofs.Lengths.{reads_long}

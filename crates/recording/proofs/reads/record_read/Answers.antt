@@ -1,6 +1,5 @@
 -- `record_read` meets its contract: an own write, what is found else, and whether it was read before.
 use mathlib.Core.Path.{refl, sym, ap, ◌∙◌}
-use borrow.Author.Rules.{rules}
 use Rattle.recording.specs.ReadList.{laid}
 use Rattle.recording.specs.Record.{record_none, record_once, read_before, read_new}
 use Rattle.recording.proofs.reads.record_read.Goals as goal

@@ -1,7 +1,6 @@
 -- `same_read` meets its contract, by its tests in order.
 use mathlib.Core.Bool.{and-true, and-false}
 use borrow.Author.Tests.{eq-eqb, ne_eqb}
-use borrow.Author.Rules.{rules}
 use Rattle.recording.proofs.reads.same_read.Goals as goal
 
 pub returns-then-e-p : goal.returns-then-e-p

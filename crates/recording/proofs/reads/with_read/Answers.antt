@@ -1,5 +1,4 @@
 -- `with_read` meets its contract: the transaction's reads, then one recorded.
-use borrow.Author.Rules.{rules}
 use Rattle.recording.proofs.reads.with_read.Goals as goal
 
 pub returns : goal.returns

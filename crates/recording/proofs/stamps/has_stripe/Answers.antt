@@ -1,13 +1,9 @@
 -- `has_stripe` meets its contract: an index read of the stripe is among all if it is among those from the present place on.
-use mathlib.Core.Path.{◌≡◌, refl, sym, ap, ◌∙◌}
-use Prim.Native.Nat.{◌-◌, ◌≤◌, min}
+use mathlib.Core.Path.{refl, sym, ap, ◌∙◌}
 use native.Mathlib.Omega.{arith}
-use borrow.Author.Rules.{rules}
 use borrow.Author.Tests.{eq-eqb, ne_eqb}
-use Rattle.records.specs.Limits.{index_read_limit}
 use Rattle.records.specs.Zero.{no_index_read}
 use Rattle.rules.specs.Lists.{any}
-use Rattle.rules.specs.Transaction.{index_reads_of}
 use Rattle.fields.specs.First.{first_from, first_next, first_end, any_first, any_rest}
 use Rattle.recording.specs.StampList.{of_stripe}
 use Rattle.fields.proofs.Lengths.{index_reads_long}

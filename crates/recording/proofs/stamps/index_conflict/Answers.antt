@@ -1,7 +1,6 @@
 -- `index_conflict` meets its contract, by its tests in order.
 use mathlib.Core.Path.{ap}
 use mathlib.Core.Bool.{not}
-use borrow.Author.Rules.{rules}
 use borrow.Author.Tests.{eq-eqb, ne_eqb}
 use Rattle.recording.specs.StampList.{index_conflict}
 use Rattle.recording.proofs.stamps.index_conflict.Goals as goal

@@ -1,6 +1,5 @@
 -- `record_stamp` meets its contract: by whether the stripe was read before and whether the array has a place left.
 use native.Mathlib.Omega.{arith}
-use borrow.Author.Rules.{rules}
 use Rattle.recording.specs.StampList.{list_short, stamp_before, stamp_room, stamp_over}
 use Rattle.fields.proofs.Lengths.{index_reads_long}
 use Rattle.recording.proofs.stamps.record_stamp.Goals as goal

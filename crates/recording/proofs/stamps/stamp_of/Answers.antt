@@ -1,7 +1,6 @@
 -- `stamp_of` meets its contract: a stripe is a place of the array.
 use mathlib.Core.Path.{sym}
 use native.Mathlib.Omega.{arith}
-use borrow.Author.Rules.{rules}
 use Rattle.records.specs.Limits.{stripes}
 use Rattle.fields.specs.Lent.{array_at}
 use Rattle.recording.proofs.stamps.stamp_of.Goals as goal
