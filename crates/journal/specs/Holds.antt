@@ -68,12 +68,14 @@ holds_push {j} {after} {n} {r} {p} {ps} h l k e =
     let j' = set j (n + n) w in
     let c : r ≡ suc n = rw yes at e.count ∙ add-one n in
     let s : after ≡ set j' (n + n + 1) p.val = rw yes at e.words in
+    let past : puts after n ≡ puts j n
+    = ap (λ x. puts x n) s ∙ puts_past j' n (n + n + 1) p.val (omega arith) ∙ puts_past j n (n + n) w (omega arith) in
     let a : get_or (set j' (n + n + 1) p.val) (n + n) 0 ≡ w
     = get_or-set_other j' (n + n + 1) (n + n) p.val 0 (λ q. omega arith) ∙ get_or-set_same j (n + n) w 0 (omega (arith, e.long yes)) in
     let b : get_or (set j' (n + n + 1) p.val) (n + n + 1) 0 ≡ p.val = get_or-set_same j' (n + n + 1) p.val 0 (rw length-set (omega (arith, e.long yes))) in
     record {
       room = omega arith;
-      are = rw (c, s, a, b, puts_past j' n (n + n + 1) p.val (omega arith), puts_past j n (n + n) w (omega arith), put_back p k, h.are);
+      are = rw (c, past, s, a, b, put_back p k, h.are);
     }
 
 -- the puts of a smaller number are the first of them
