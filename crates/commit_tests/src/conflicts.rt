@@ -14,7 +14,7 @@ use fields::txids::in_snapshot;
 use records::{ReadRecord, RowId, SlotPtr, Store, Tx, Txid};
 
 // What a test answers: whether an entry conflicts, and the place of the first that does, or the number of entries if none does.
-#[derive(Drop)]
+#[derive(Clone, Copy)]
 pub struct Tested {
     pub yes: bool,
     pub place: usize,

@@ -7,7 +7,7 @@ use fields::lent::clipped;
 use records::Schedule;
 
 // The letter that strikes at each step and its k, 0 for none: a commit reads its schedule once, and then asks these.
-#[derive(Drop)]
+#[derive(Clone, Copy)]
 pub struct Letters {
     pub at: [u8; Schedule::FAULTS],
     pub counts: [u32; Schedule::FAULTS],

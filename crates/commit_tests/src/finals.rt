@@ -9,7 +9,7 @@ use fields::lent::clipped;
 use records::{RowId, Tx, Write};
 
 // The final writes in list order: the first `count` places.
-#[derive(Drop)]
+#[derive(Clone, Copy)]
 pub struct Finals {
     pub at: [Write; Tx::WRITES],
     pub count: usize,
