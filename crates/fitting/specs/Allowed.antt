@@ -57,9 +57,9 @@ module _ (n c k m b : ℕ) (h : c < letter_end) (d : m ≡ get_or masks n 0) (e 
 abbrev pub steps_differ : Fault → Fault → Bool
 steps_differ f g = not (eqb g.step f.step)
 
-pub steps_apart : (l : List Fault) → steps_apart l ≡ pairs steps_differ l
-steps_apart [] = refl
-steps_apart (f ∷ l) = ap (λ b. all (steps_differ f) l && b) (steps_apart l)
+pub steps_apart_law : (l : List Fault) → steps_apart l ≡ pairs steps_differ l
+steps_apart_law [] = refl
+steps_apart_law (f ∷ l) = ap (λ b. all (steps_differ f) l && b) (steps_apart_law l)
 
 -- a letter in no mask
 pub no_bit : (c : ℕ) → (c ≡ F → ⊥) → (c ≡ B → ⊥) → (c ≡ P → ⊥) → (c ≡ X → ⊥) → (c ≡ Q → ⊥) → 64 ≡ bit_of c

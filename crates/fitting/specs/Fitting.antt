@@ -186,10 +186,10 @@ module _ (w v : Write) where
   unfolding writes_differ
   same_base e n = rw (ne_eqb v.new.0 w.new.0 e, eq-eqb v.base.0 w.base.0 n, or_yes)
 
-pub writes_apart : (l : List Write) → writes_apart l ≡ pairs writes_differ l
+pub writes_apart_law : (l : List Write) → writes_apart l ≡ pairs writes_differ l
 unfolding writes_differ
-writes_apart [] = refl
-writes_apart (w ∷ l) = ap (λ b. all (writes_differ w) l && b) (writes_apart l)
+writes_apart_law [] = refl
+writes_apart_law (w ∷ l) = ap (λ b. all (writes_differ w) l && b) (writes_apart_law l)
 
 -- two index reads of different stripes
 abbrev pub stripes_differ : IndexRead → IndexRead → Bool

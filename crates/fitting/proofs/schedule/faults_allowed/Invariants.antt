@@ -1,0 +1,17 @@
+-- `faults_allowed` meets its contract: what is left from place i on decides as the whole does.
+use mathlib.Core.Path.{◌≡◌}
+use Prim.Native.Nat.{◌-◌, ◌≤◌}
+use lib.ListN.{take}
+use Rattle.records.specs.Limits.{fault_limit}
+use Rattle.records.specs.Zero.{no_fault}
+use Rattle.rules.specs.Lists.{all}
+use Rattle.rules.specs.Faults.{allowed}
+use Rattle.fields.specs.Lent.{array}
+use Rattle.fields.specs.Scan.{first_left}
+use Rattle.fitting.proofs.schedule.faults_allowed.Given as goal
+
+abbrev pub invariant-loop-i : goal.invariant-loop-i
+invariant-loop-i l = (l.i ≤ l.n) × (first_left allowed l.n fault_limit no_fault l.faults l.i ≡ all allowed (take l.n (array fault_limit no_fault l.faults)))
+
+abbrev pub decreases-loop-i : goal.decreases-loop-i
+decreases-loop-i l = l.n - l.i
