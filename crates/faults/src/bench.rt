@@ -6,7 +6,7 @@ use replay_core::turn::turn;
 use script::Line;
 
 // A store and a transaction; `refused` once a call was.
-#[derive(Drop)]
+#[derive(Clone, Copy)]
 pub struct Desk {
     pub store: Store,
     pub tx: Tx,
@@ -14,7 +14,7 @@ pub struct Desk {
 }
 
 // What is committed in every way, and what the rows show before and after: 0 for none, else the key and 1.
-#[derive(Drop)]
+#[derive(Clone, Copy)]
 pub struct Bench {
     pub store: Store,
     pub tx: Tx,

@@ -7,6 +7,7 @@ use commit::commit;
 use journal::Journal;
 use records::{Cut, Schedule};
 use script::refusal::number_of;
+use std::io;
 
 // As many as any commit makes.
 const MOST: usize = Journal::PUTS;
@@ -40,19 +41,24 @@ fn cut_sight(b: Bench, logged: bool, plan: Schedule, whole: u64, n: u32) -> u8 {
 }
 
 // Cuts from 0 to the stores of the uncut run: the last is none.
-pub fn write_cuts(b: Bench, logged: bool, plan: Schedule, whole: u64, stores: usize) {
+pub fn write_cuts<R: Print>(
+    rt: &R,
+    b: Bench,
+    logged: bool,
+    plan: Schedule,
+    whole: u64,
+    stores: usize,
+) -> io::Result<()> {
     let end = counted(stores);
     let mut from: u32 = 0;
     let mut seen = cut_sight(b, logged, plan, whole, 0);
-    let mut n: u32 = 0;
-    while n < end {
+    for n in 0..end {
         let next = cut_sight(b, logged, plan, whole, n + 1);
         if next != seen {
-            print::run(from, n, seen);
+            print::run(rt, from, n, seen)?;
             from = n + 1;
             seen = next;
         }
-        n += 1;
     }
-    print::run(from, end, seen);
+    print::run(rt, from, end, seen)
 }

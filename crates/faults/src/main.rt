@@ -14,25 +14,29 @@ mod trial;
 mod tries;
 
 use bench::Bench;
+use ending::written;
 use records::Schedule;
+use std::io;
+use std::process::ExitCode;
 
 const STEPS: u32 = Schedule::STEPS as u32;
 
 // All steps, unlogged or logged.
-fn try_mode(b: Bench, logged: bool) {
-    row::row(b, logged, trial::none());
-    let mut step: u32 = 1;
-    while step <= STEPS {
-        tries::try_step(b, logged, step);
-        step += 1;
+fn try_mode<R: Print>(rt: &R, b: Bench, logged: bool) -> io::Result<()> {
+    row::row(rt, b, logged, trial::none())?;
+    for step in 1..=STEPS {
+        tries::try_step(rt, b, logged, step)?;
     }
+    Ok(())
 }
 
-fn main() {
+fn table<R: Print>(rt: &R) -> io::Result<()> {
     let b = bench::prepared();
-    let old = b.old;
-    let new = b.new;
-    print::legend(b.refused, old, new);
-    try_mode(b, false);
-    try_mode(b, true);
+    print::legend(rt, b.refused, b.old, b.new)?;
+    try_mode(rt, b, false)?;
+    try_mode(rt, b, true)
+}
+
+fn main(rt: HostRuntime) -> ExitCode {
+    written(&rt, table(&rt)).code()
 }

@@ -6,190 +6,159 @@ use super::trial::Trial;
 use fields::txids::is_active;
 use records::{Answer, Fate, Fault, RowId, Txid};
 use resting::rest::resting;
+use std::io;
 
-fn word(s: &[u8]) {
-    io::write_all(1, s);
+pub fn tab<R: Print>(rt: &R) -> io::Result<()> {
+    rt.print("\t")
 }
 
-fn number(n: u64) {
-    io::print_decimal(1, n);
+pub fn end<R: Print>(rt: &R) -> io::Result<()> {
+    rt.print("\n")
 }
 
-pub fn tab() {
-    word(b"\t");
-}
-
-pub fn end() {
-    word(b"\n");
-}
-
-fn rows(keys: [u64; RowId::ROWS]) {
-    let mut r: usize = 0;
-    while r < RowId::ROWS {
+fn rows<R: Print>(rt: &R, keys: [u64; RowId::ROWS]) -> io::Result<()> {
+    for r in 0..RowId::ROWS {
         if keys[r] != 0 {
-            word(b" ");
-            number(r as u64);
-            word(b"=");
-            number(keys[r] - 1);
+            let key = keys[r] - 1;
+            print!(rt; " {r}={key}")?;
         }
-        r += 1;
     }
-    end();
+    end(rt)
 }
 
 // The rows before and after, and the columns.
-pub fn legend(refused: bool, old: [u64; RowId::ROWS], new: [u64; RowId::ROWS]) {
+pub fn legend<R: Print>(
+    rt: &R,
+    refused: bool,
+    old: [u64; RowId::ROWS],
+    new: [u64; RowId::ROWS],
+) -> io::Result<()> {
     if refused {
-        word(b"A CALL OF THE PREPARATION WAS REFUSED\n");
+        rt.println("A CALL OF THE PREPARATION WAS REFUSED")?;
     }
-    word(b"old:");
-    rows(old);
-    word(b"new:");
-    rows(new);
-    word(
-        b"mode\tstep\tfault\tat21\tat23\tat24\tnumber\tfate\tstores\tstore\ttxid\twrites/reads/index reads\tshows\tcuts\n",
-    );
+    rt.print("old:")?;
+    rows(rt, old)?;
+    rt.print("new:")?;
+    rows(rt, new)?;
+    rt.println(
+        "mode\tstep\tfault\tat21\tat23\tat24\tnumber\tfate\tstores\tstore\ttxid\twrites/reads/index reads\tshows\tcuts",
+    )
 }
 
-fn mode(logged: bool) {
-    if logged {
-        word(b"l\t");
-    } else {
-        word(b"u\t");
-    }
+fn mode(logged: bool) -> &'static str {
+    if logged { "l" } else { "u" }
 }
 
 // Letter and k.
-fn fault(f: Fault) {
-    let letter = [f.letter];
-    word(&letter);
-    number(f.k as u64);
+fn fault<R: Print>(rt: &R, f: Fault) -> io::Result<()> {
+    let letter = char::from(f.letter);
+    let k = f.k;
+    print!(rt; "{letter}{k}")
 }
 
-fn failing(fails: bool) {
-    if fails {
-        word(b"F0\t");
-    } else {
-        word(b"-\t");
+fn failing(fails: bool) -> &'static str {
+    if fails { "F0" } else { "-" }
+}
+
+fn first<R: Print>(rt: &R, f: Fault) -> io::Result<()> {
+    if f.step == 0 {
+        return rt.print("-\t-");
     }
+    let step = f.step;
+    print!(rt; "{step}\t")?;
+    fault(rt, f)
+}
+
+fn rollback<R: Print>(rt: &R, tried: u32) -> io::Result<()> {
+    if tried == 0 {
+        return rt.print("-");
+    }
+    let k = tried - 1;
+    print!(rt; "F{k}")
 }
 
 // The schedule.
-pub fn trial(logged: bool, t: Trial) {
-    mode(logged);
-    if t.first.step == 0 {
-        word(b"-\t-");
-    } else {
-        number(t.first.step as u64);
-        tab();
-        fault(t.first);
-    }
-    tab();
-    failing(t.finish);
-    failing(t.abort);
-    if t.rollback == 0 {
-        word(b"-");
-    } else {
-        word(b"F");
-        number((t.rollback - 1) as u64);
-    }
-    tab();
+pub fn trial<R: Print>(rt: &R, logged: bool, t: Trial) -> io::Result<()> {
+    rt.print(mode(logged))?;
+    tab(rt)?;
+    first(rt, t.first)?;
+    let finish = failing(t.finish);
+    let abort = failing(t.abort);
+    print!(rt; "\t{finish}\t{abort}\t")?;
+    rollback(rt, t.rollback)?;
+    tab(rt)
 }
 
-fn fate(n: u64, f: Fate) {
+fn fate(n: u64, f: Fate) -> &'static str {
     if n == 0 {
-        word(b"-");
-        return;
+        return "-";
     }
     match f {
-        Fate::Open => word(b"open"),
-        Fate::Closed => word(b"closed"),
-        Fate::Undone => word(b"undone"),
-        Fate::Standing => word(b"standing"),
+        Fate::Open => "open",
+        Fate::Closed => "closed",
+        Fate::Undone => "undone",
+        Fate::Standing => "standing",
     }
 }
 
 // How the answer leaves the store.
-fn store(rests: bool, doomed: u64, poisoned: bool) {
+fn store(rests: bool, doomed: u64, poisoned: bool) -> &'static str {
     if !rests {
-        word(b"UNREST\t");
-        return;
+        return "UNREST";
     }
     if doomed != 0 {
-        word(b"doomed\t");
-        return;
+        return "doomed";
     }
-    if poisoned {
-        word(b"poisoned\t");
-    } else {
-        word(b"sound\t");
-    }
+    if poisoned { "poisoned" } else { "sound" }
 }
 
-fn lists(writes: usize, reads: usize, index_reads: usize) {
-    number(writes as u64);
-    word(b"/");
-    number(reads as u64);
-    word(b"/");
-    number(index_reads as u64);
-    tab();
+fn activity(active: bool) -> &'static str {
+    if active { "active" } else { "ended" }
 }
 
-fn activity(active: bool) {
-    if active {
-        word(b"active\t");
-    } else {
-        word(b"ended\t");
-    }
+pub fn answer<R: Print>(rt: &R, a: Answer, n: u64, t: Txid) -> io::Result<()> {
+    let fate = fate(n, fate_in(a.refusal));
+    let stores = a.stores;
+    let store = store(resting(a.store), a.store.doomed, a.store.poisoned);
+    let activity = activity(is_active(&a.store.active, t));
+    let writes = a.tx.write_count;
+    let reads = a.tx.read_count;
+    let index_reads = a.tx.index_read_count;
+    print!(rt; "{n}\t{fate}\t{stores}\t{store}\t{activity}\t{writes}/{reads}/{index_reads}\t")
 }
 
-pub fn answer(a: Answer, n: u64, t: Txid) {
-    number(n);
-    tab();
-    let why = a.refusal;
-    fate(n, fate_in(why));
-    tab();
-    number(a.stores as u64);
-    tab();
-    store(resting(a.store), a.store.doomed, a.store.poisoned);
-    activity(is_active(&a.store.active, t));
-    lists(a.tx.write_count, a.tx.read_count, a.tx.index_read_count);
-}
-
-pub fn sight(v: u8) {
-    match v {
-        shown::OLD => word(b"old"),
-        shown::NEW => word(b"new"),
-        shown::MIXED => word(b"MIXED"),
-        shown::REFUSED => word(b"RECOVERY REFUSED"),
-        shown::UNREST => word(b"NOT AT REST"),
-        shown::WHOLE => word(b"whole"),
-        _ => word(b"WRONG ANSWER"),
-    }
+pub fn sight<R: Print>(rt: &R, v: u8) -> io::Result<()> {
+    rt.print(match v {
+        shown::OLD => "old",
+        shown::NEW => "new",
+        shown::MIXED => "MIXED",
+        shown::REFUSED => "RECOVERY REFUSED",
+        shown::UNREST => "NOT AT REST",
+        shown::WHOLE => "whole",
+        _ => "WRONG ANSWER",
+    })
 }
 
 // Cuts that show the same.
-pub fn run(from: u32, to: u32, v: u8) {
+pub fn run<R: Print>(rt: &R, from: u32, to: u32, v: u8) -> io::Result<()> {
     if from != 0 {
-        word(b", ");
+        rt.print(", ")?;
     }
-    number(from as u64);
-    if from != to {
-        word(b"-");
-        number(to as u64);
+    if from == to {
+        print!(rt; "{from} ")?;
+    } else {
+        print!(rt; "{from}-{to} ")?;
     }
-    word(b" ");
-    sight(v);
+    sight(rt, v)
 }
 
 // The line of the faults that a step doesn't take.
-pub fn unfit(logged: bool, step: u32) {
-    mode(logged);
-    number(step as u64);
-    word(b"\tunfit (2, no store):");
+pub fn unfit<R: Print>(rt: &R, logged: bool, step: u32) -> io::Result<()> {
+    let mode = mode(logged);
+    print!(rt; "{mode}\t{step}\tunfit (2, no store):")
 }
 
-pub fn named(f: Fault) {
-    word(b" ");
-    fault(f);
+pub fn named<R: Print>(rt: &R, f: Fault) -> io::Result<()> {
+    rt.print(" ")?;
+    fault(rt, f)
 }

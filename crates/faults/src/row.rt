@@ -8,6 +8,7 @@ use super::{print, shown};
 use commit::commit;
 use records::{Cut, Fault};
 use script::refusal::number_of;
+use std::io;
 
 // The fault alone is answered 2, with no store, and recovery shows the old rows.
 pub fn is_unfit(b: Bench, logged: bool, f: Fault) -> bool {
@@ -28,15 +29,15 @@ pub fn is_unfit(b: Bench, logged: bool, f: Fault) -> bool {
     sight_of(b, a.store) == shown::OLD
 }
 
-pub fn row(b: Bench, logged: bool, t: Trial) {
+pub fn row<R: Print>(rt: &R, b: Bench, logged: bool, t: Trial) -> io::Result<()> {
     let plan = schedule_of(t);
     let a = commit(b.store, b.tx, logged, plan, Cut::Uncut);
     let why = a.refusal;
     let number = number_of(why);
-    print::trial(logged, t);
-    print::answer(a, number, b.tx.txid);
-    print::sight(sight_of(b, a.store));
-    print::tab();
-    write_cuts(b, logged, plan, number, a.stores);
-    print::end();
+    print::trial(rt, logged, t)?;
+    print::answer(rt, a, number, b.tx.txid)?;
+    print::sight(rt, sight_of(b, a.store))?;
+    print::tab(rt)?;
+    write_cuts(rt, b, logged, plan, number, a.stores)?;
+    print::end(rt)
 }

@@ -31,22 +31,18 @@ fn shown(v: Value) -> u64 {
 // The heads' values: what the rows of a recovered store show.
 pub fn rows_of(s: Store) -> [u64; RowId::ROWS] {
     let mut rows = [0; RowId::ROWS];
-    let mut r: usize = 0;
-    while r < RowId::ROWS {
+    for r in 0..RowId::ROWS {
         let p = SlotPtr(s.heads[r]);
         rows[r] = shown(value_at(&s.key, &s.has, p));
-        r += 1;
     }
     rows
 }
 
 fn same(a: [u64; RowId::ROWS], b: [u64; RowId::ROWS]) -> bool {
-    let mut r: usize = 0;
-    while r < RowId::ROWS {
+    for r in 0..RowId::ROWS {
         if a[r] != b[r] {
             return false;
         }
-        r += 1;
     }
     true
 }

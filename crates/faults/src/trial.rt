@@ -3,7 +3,7 @@
 use records::{Fault, Schedule};
 
 // The first fault, none at step 0; whether 21 and 23 fail too; and 24: 0 for no fault, else F with one less for k.
-#[derive(Drop)]
+#[derive(Clone, Copy)]
 pub struct Trial {
     pub first: Fault,
     pub finish: bool,

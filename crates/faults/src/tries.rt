@@ -5,17 +5,24 @@ use super::print;
 use super::row::{is_unfit, row};
 use super::trial::{Trial, ks_tried, reaches_abort, reaches_finish, rollbacks_tried};
 use records::Fault;
+use std::io;
 
 const COUNT: usize = 5;
 
 const LETTERS: [u8; COUNT] = [b'F', b'B', b'P', b'X', b'Q'];
 
 // The rollback after it sound, and failed after each number of stores.
-fn try_rollbacks(b: Bench, logged: bool, first: Fault, finish: bool, abort: bool) {
-    let tried = rollbacks_tried(first, logged);
-    let mut rollback: u32 = 0;
-    while rollback < tried {
+fn try_rollbacks<R: Print>(
+    rt: &R,
+    b: Bench,
+    logged: bool,
+    first: Fault,
+    finish: bool,
+    abort: bool,
+) -> io::Result<()> {
+    for rollback in 0..rollbacks_tried(first, logged) {
         row(
+            rt,
             b,
             logged,
             Trial {
@@ -24,53 +31,64 @@ fn try_rollbacks(b: Bench, logged: bool, first: Fault, finish: bool, abort: bool
                 abort,
                 rollback,
             },
-        );
-        rollback += 1;
+        )?;
     }
+    Ok(())
 }
 
 // A line for each schedule that the fault leads to; or only its name, where it is unfit.
-fn try_fault(b: Bench, logged: bool, f: Fault, naming: bool) {
+fn try_fault<R: Print>(rt: &R, b: Bench, logged: bool, f: Fault, naming: bool) -> io::Result<()> {
     let unfit = is_unfit(b, logged, f);
     if naming {
         if unfit {
-            print::named(f);
+            print::named(rt, f)?;
         }
-        return;
+        return Ok(());
     }
     if unfit {
-        return;
+        return Ok(());
     }
-    try_rollbacks(b, logged, f, false, false);
+    try_rollbacks(rt, b, logged, f, false, false)?;
     if reaches_finish(f) {
-        try_rollbacks(b, logged, f, true, false);
+        try_rollbacks(rt, b, logged, f, true, false)?;
     }
     if reaches_abort(f, logged) {
-        try_rollbacks(b, logged, f, false, true);
+        try_rollbacks(rt, b, logged, f, false, true)?;
     }
+    Ok(())
 }
 
-fn try_letter(b: Bench, logged: bool, step: u32, letter: u8, naming: bool) {
-    let tried = ks_tried(step, letter);
-    let mut k: u32 = 0;
-    while k < tried {
-        try_fault(b, logged, Fault { step, letter, k }, naming);
-        k += 1;
+fn try_letter<R: Print>(
+    rt: &R,
+    b: Bench,
+    logged: bool,
+    step: u32,
+    letter: u8,
+    naming: bool,
+) -> io::Result<()> {
+    for k in 0..ks_tried(step, letter) {
+        try_fault(rt, b, logged, Fault { step, letter, k }, naming)?;
     }
+    Ok(())
 }
 
-fn try_letters(b: Bench, logged: bool, step: u32, naming: bool) {
-    let mut i: usize = 0;
-    while i < COUNT {
-        try_letter(b, logged, step, LETTERS[i], naming);
-        i += 1;
+fn try_letters<R: Print>(
+    rt: &R,
+    b: Bench,
+    logged: bool,
+    step: u32,
+    naming: bool,
+) -> io::Result<()> {
+    for letter in LETTERS {
+        try_letter(rt, b, logged, step, letter, naming)?;
     }
+    Ok(())
 }
 
 // A line for each fit schedule, and one for all faults that are answered 2.
-pub fn try_step(b: Bench, logged: bool, step: u32) {
-    try_letters(b, logged, step, false);
-    print::unfit(logged, step);
-    try_letters(b, logged, step, true);
-    print::end();
+pub fn try_step<R: Print>(rt: &R, b: Bench, logged: bool, step: u32) -> io::Result<()> {
+    try_letters(rt, b, logged, step, false)?;
+    print::unfit(rt, logged, step)?;
+    try_letters(rt, b, logged, step, true)?;
+    print::end(rt)
 }

@@ -5,8 +5,14 @@
 mod print;
 mod tally;
 
+ghost use Rattle.std.specs.Prelude.{◌≤◌};
+ghost use Rattle.looks.specs.Most.{most};
+
+use ending::written;
 use fields::lent::clipped;
 use packed::halving::{Place, find_place};
+use std::io;
+use std::process::ExitCode;
 use tally::{added, none};
 
 // The longest list that is searched, whatever the store's limit is.
@@ -15,19 +21,19 @@ const MOST: usize = 256;
 // The postings 1, 3, 5 ..: each even number is absent.
 fn odd() -> [u64; MOST] {
     let mut x = [0; MOST];
-    let mut i: usize = 0;
-    while i < MOST {
+    for i in 0..MOST {
         x[i] = (i as u64) * 2 + 1;
-        i += 1;
     }
     x
 }
 
 // From the front to the first that is not below v.
-fn from_front(x: &[u64; MOST], n: usize, v: u64) -> Place {
+fn from_front(x: &[u64; MOST], n: usize, v: u64) -> Place
+    ensures at { result.at ≤ most }
+    ensures looks { result.looks ≤ most }
+{
     let m = clipped(n, MOST);
-    let mut i: usize = 0;
-    while i < m {
+    for i in 0..m {
         let y = x[i];
         if v <= y {
             return Place {
@@ -35,9 +41,8 @@ fn from_front(x: &[u64; MOST], n: usize, v: u64) -> Place {
                 looks: i + 1,
             };
         }
-        i += 1;
     }
-    Place { at: i, looks: i }
+    Place { at: m, looks: m }
 }
 
 fn one_unless(same: bool) -> usize {
@@ -45,29 +50,31 @@ fn one_unless(same: bool) -> usize {
 }
 
 // Every posting of the first n and every number between two of them is looked for, in both ways.
-fn search_all(n: usize) {
+fn search_all<R: Print>(rt: &R, n: usize) -> io::Result<()> {
     let x = odd();
     let last = 2 * (clipped(n, MOST) as u64);
     let mut front = none();
     let mut halved = none();
     let mut apart = none();
-    let mut v: u64 = 0;
-    while v <= last {
+    for v in 0..=last {
         let a = from_front(&x, n, v);
         let b = find_place(&x, n, v);
         front = added(front, a.looks);
         halved = added(halved, b.looks);
         apart = added(apart, one_unless(a.at == b.at));
-        v += 1;
     }
-    print::row(n, last + 1, front, halved, apart);
+    print::row(rt, n, last + 1, front, halved, apart)
 }
 
-fn main() {
-    print::head();
-    search_all(0);
-    search_all(16);
-    search_all(64);
-    search_all(128);
-    search_all(MOST);
+fn table<R: Print>(rt: &R) -> io::Result<()> {
+    print::head(rt)?;
+    search_all(rt, 0)?;
+    search_all(rt, 16)?;
+    search_all(rt, 64)?;
+    search_all(rt, 128)?;
+    search_all(rt, MOST)
+}
+
+fn main(rt: HostRuntime) -> ExitCode {
+    written(&rt, table(&rt)).code()
 }

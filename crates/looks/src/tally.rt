@@ -1,10 +1,20 @@
 // Looks added up over many searches.
 
+use std::fmt;
+
 // The most that one search took, and all together.
-#[derive(Drop)]
+#[derive(Clone, Copy)]
 pub struct Tally {
     pub most: usize,
     pub all: usize,
+}
+
+impl fmt::Display for Tally {
+    fn fmt<W: fmt::Write>(&self, f: &mut fmt::Formatter<W>) -> fmt::Result {
+        let most = self.most;
+        let all = self.all;
+        write!(f, "{most}\t{all}")
+    }
 }
 
 pub fn none() -> Tally {

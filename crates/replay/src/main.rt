@@ -5,42 +5,60 @@
 
 mod stream;
 
+use ending::{Ending, refused};
+use std::env::FillError;
+use std::process::ExitCode;
+use std::rt::{Env, Files};
 use stream::{replay_all, replay_file};
 
-fn replay_input() {
-    replay_all(libc::STDIN_FILENO, b"standard input");
+// What a path takes at most.
+const PATH: usize = 4096;
+
+fn replay_input<R: Input + Print + Eprint + AllocGlobal>(rt: &R) -> Ending {
+    replay_all(rt, &mut rt.reader(), "standard input")
 }
 
-fn is_dash(name: &[u8]) -> bool {
-    if name.len() != 1 {
-        return false;
+// A name that isn't text gets a message, as a file that can't be opened does: files are opened by text alone.
+fn replay_path<R: Files + Input + Print + Eprint + AllocGlobal>(rt: &R, path: &[u8]) -> Ending {
+    match str::from_utf8(path) {
+        Ok("-") => replay_input(rt),
+        Ok(path) => replay_file(rt, path),
+        Err(_) => refused(rt, path.escape_ascii(), "a file's name must be UTF-8"),
     }
-    name[0] == b'-'
 }
 
-fn replay_named(i: usize) {
-    let mut path = io::buffer();
-    let n = os::arg(i, &mut path);
-    if os::errno() != 0 {
-        os::fail(b"a script's name");
-        return;
+// None where there is no such argument.
+fn replay_named<R: Env + Files + Input + Print + Eprint + AllocGlobal>(
+    rt: &R,
+    i: usize,
+) -> Option<Ending> {
+    let mut path = [0u8; PATH];
+    match rt.arg(i, &mut path) {
+        Ok(n) => Some(replay_path(rt, &path[..n])),
+        Err(FillError::NotPresent) => None,
+        Err(FillError::TooLong) => Some(refused(rt, "a script's name", "File name too long")),
     }
-    if is_dash(&path[..n]) {
-        replay_input();
-        return;
-    }
-    replay_file(&path[..n]);
 }
 
-fn main() {
-    let words = os::arg_count();
-    if words < 2 {
-        replay_input();
-        return;
+// None where there is no argument. Where nobody reads the answers any more, nothing more is replayed.
+fn replay_names<R: Env + Files + Input + Print + Eprint + AllocGlobal>(rt: &R) -> Option<Ending> {
+    let mut ended = replay_named(rt, 1)?;
+    for i in 2..usize::MAX {
+        if ended == Ending::Unread {
+            break;
+        }
+        let Some(next) = replay_named(rt, i) else {
+            break;
+        };
+        ended = ended.and(next);
     }
-    let mut i: usize = 1;
-    while i < words {
-        replay_named(i);
-        i += 1;
-    }
+    Some(ended)
+}
+
+fn main(rt: HostRuntime) -> ExitCode {
+    let ended = match replay_names(&rt) {
+        Some(ended) => ended,
+        None => replay_input(&rt),
+    };
+    ended.code()
 }

@@ -1,28 +1,30 @@
 // A script read from a file, replayed as it comes, and its answers written to standard output.
 
-use libc::STDOUT_FILENO;
+use ending::{Ending, missing, written};
 use replay_core::feed::{Replay, feed, finish, start};
+use std::fs;
+use std::io::Read;
+use std::rt::Files;
+
+// At most so many bytes are read at once.
+const PART: usize = 4096;
 
 // Room for answers; a part of a script that needs more is answered in several writes.
 const ROOM: usize = 16384;
 
-// What a part of a script leaves: the replay, and whether to go on.
-#[derive(Drop)]
-pub struct Went {
-    pub replay: Replay,
-    pub more: bool,
-}
-
-fn write_out(answers: &[u8]) -> bool {
-    let is_written = io::write_all(STDOUT_FILENO, answers);
-    if !is_written {
-        os::fail(b"standard output");
+fn write_out<R: Print + Eprint + AllocGlobal>(rt: &R, answers: &[u8]) -> Result<(), Ending> {
+    match written(rt, rt.write_all(answers)) {
+        Ending::Answered => Ok(()),
+        ended => Err(ended),
     }
-    is_written
 }
 
 // Answers the lines that end in a part, as many at once as there is room for.
-fn replay_part(part: &[u8], r: Replay) -> Went {
+fn replay_part<R: Print + Eprint + AllocGlobal>(
+    rt: &R,
+    part: &[u8],
+    r: Replay,
+) -> Result<Replay, Ending> {
     let mut out = [0u8; ROOM];
     let mut next = r;
     let mut at: usize = 0;
@@ -31,70 +33,68 @@ fn replay_part(part: &[u8], r: Replay) -> Went {
         let n = f.count;
         next = f.replay;
         at += f.taken;
-        let is_written = write_out(&out[..n]);
-        if !is_written {
-            return Went {
-                replay: next,
-                more: false,
-            };
-        }
+        write_out(rt, &out[..n])?;
     }
-    Went {
-        replay: next,
-        more: true,
-    }
+    Ok(next)
 }
 
 // A last line without a line feed.
-fn replay_end(r: Replay) {
+fn replay_end<R: Print + Eprint + AllocGlobal>(rt: &R, r: Replay) -> Result<(), Ending> {
     let mut out = [0u8; ROOM];
     let n = finish(r, &mut out);
-    write_out(&out[..n]);
+    write_out(rt, &out[..n])
 }
 
-// Reads once, and answers what came.
-fn replay_some(fd: i32, name: &[u8], r: Replay) -> Went {
-    let mut part = io::buffer();
-    let got = libc::read(fd, &mut part);
-    if got < 0 {
-        os::fail(name);
-        return Went {
-            replay: r,
-            more: false,
-        };
+// Reads once, and answers what came; none is left to replay where the script ended.
+fn replay_some<R: Print + Eprint + AllocGlobal, S: Read>(
+    rt: &R,
+    script: &mut S,
+    name: &str,
+    r: Replay,
+) -> Result<Option<Replay>, Ending> {
+    let mut part = [0u8; PART];
+    let n = match script.read(&mut part) {
+        Ok(n) => n,
+        Err(why) => return Err(missing(rt, name, &why)),
+    };
+    if n == 0 {
+        replay_end(rt, r)?;
+        return Ok(None);
     }
-    if got == 0 {
-        replay_end(r);
-        return Went {
-            replay: r,
-            more: false,
-        };
-    }
-    let n = io::count(got, &part);
-    replay_part(&part[..n], r)
+    Ok(Some(replay_part(rt, &part[..n], r)?))
 }
 
-// A proved loop has to end, and nothing says that a file does: so it counts its turns down, from a number that no run uses up.
-pub fn replay_all(fd: i32, name: &[u8]) {
-    let mut turns = u64::MAX;
+// A proved loop has to end, and nothing says that a file does: so its turns are counted, up to a number that no run reaches.
+fn replay_rest<R: Print + Eprint + AllocGlobal, S: Read>(
+    rt: &R,
+    script: &mut S,
+    name: &str,
+) -> Result<(), Ending> {
     let mut r = start();
-    while turns > 0 {
-        turns -= 1;
-        let w = replay_some(fd, name, r);
-        if !w.more {
-            return;
+    for _ in 0..u64::MAX {
+        match replay_some(rt, script, name, r)? {
+            Some(next) => r = next,
+            None => break,
         }
-        r = w.replay;
+    }
+    Ok(())
+}
+
+pub fn replay_all<R: Print + Eprint + AllocGlobal, S: Read>(
+    rt: &R,
+    script: &mut S,
+    name: &str,
+) -> Ending {
+    match replay_rest(rt, script, name) {
+        Ok(()) => Ending::Answered,
+        Err(ended) => ended,
     }
 }
 
 // The same for the file of that name; one that can't be opened gets a message.
-pub fn replay_file(path: &[u8]) {
-    let fd = os::open_read(path);
-    if fd < 0 {
-        os::fail(path);
-        return;
+pub fn replay_file<R: Files + Print + Eprint + AllocGlobal>(rt: &R, path: &str) -> Ending {
+    match fs::open(rt, path) {
+        Ok(mut script) => replay_all(rt, &mut script, path),
+        Err(why) => missing(rt, path, &why),
     }
-    replay_all(fd, path);
-    libc::close(fd);
 }
