@@ -14,14 +14,14 @@ use records::{RowId, SlotPtr, Store, Tx, Value, Write};
 use visibility::slots;
 
 // Postings, at most one for a write: the first `count` places.
-#[derive(Drop)]
+#[derive(Clone, Copy)]
 pub struct Codes {
     pub at: [u64; Tx::WRITES],
     pub count: usize,
 }
 
 // The destinations and the sources of the changes, and the stripes of both.
-#[derive(Drop)]
+#[derive(Clone, Copy)]
 pub struct Moves {
     pub into: Codes,
     pub out: Codes,

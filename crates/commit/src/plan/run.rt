@@ -25,7 +25,7 @@ use steps::gate::{Gate, left_at};
 use visibility::own_slots::own_marks;
 
 // What a commit stores if nothing ends it, and what it frees if it aborts.
-#[derive(Drop)]
+#[derive(Clone, Copy)]
 pub struct Plan {
     pub txid: u64,
     pub at: [Write; Tx::WRITES],
@@ -40,7 +40,7 @@ pub struct Plan {
 }
 
 // What a schedule says of the stores: how many a failed step makes, and which parts of cleaning up fail.
-#[derive(Drop)]
+#[derive(Clone, Copy)]
 pub struct Struck {
     pub inserted: usize,
     pub removed: usize,
