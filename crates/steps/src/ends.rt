@@ -18,7 +18,7 @@ use records::{Cause, Fate, Refusal, Tx};
 
 // The refusal, and the four events that don't follow from the steps passed: a step poisons or finds poison, a preparation is to be cleaned up,
 // the insertions are undone, the transaction is finished though its commit failed.
-#[derive(Drop)]
+#[derive(Clone, Copy)]
 pub struct Ending {
     pub refusal: Refusal,
     pub poisoned: bool,

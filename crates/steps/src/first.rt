@@ -16,7 +16,7 @@ use commit_tests::faults::Letters;
 use records::{Cause, RowId, SlotPtr, Store, Tx, Txid};
 
 // Where a run ends: its gate, and the cause that a 7 gives there.
-#[derive(Drop)]
+#[derive(Clone, Copy)]
 pub struct Stop {
     pub gate: usize,
     pub cause: Cause,

@@ -5,7 +5,7 @@ ghost use Rattle.std.specs.Prelude.{◌≡◌};
 ghost use Rattle.steps.specs.GateTable.{row_at, number_at, passed_at, left_at};
 
 // A row of the table: the number that a gate answers if cleaning up works, the steps passed before it, and what it leaves of the transaction.
-#[derive(Drop)]
+#[derive(Clone, Copy)]
 pub struct Gate(pub u8, pub usize, pub u8);
 
 impl Gate {

@@ -1,0 +1,10 @@
+-- `invoke_before_publish` meets its contract: the step is for a logged commit.
+use Rattle.steps.specs.Stops.{gate_from}
+use Rattle.steps.proofs.gates.invoke_before_publish.Goals as goal
+
+pub returns-then-logged : goal.returns-then-logged
+returns-then-logged c = rw (c.if-logged.true, ← c.ends_callback.ensures) c.gate_if.ensures
+
+pub returns-else-logged : goal.returns-else-logged
+unfolding gate_from
+returns-else-logged c = rw c.if-logged.false

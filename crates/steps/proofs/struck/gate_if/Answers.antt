@@ -1,0 +1,11 @@
+-- `gate_if` meets its contract, by its test.
+use Rattle.steps.specs.Stops.{gate_from}
+use Rattle.steps.proofs.struck.gate_if.Goals as goal
+
+pub returns-then-struck : goal.returns-then-struck
+unfolding gate_from
+returns-then-struck c = rw c.if-struck.true
+
+pub returns-else-struck : goal.returns-else-struck
+unfolding gate_from
+returns-else-struck c = rw c.if-struck.false
