@@ -14,7 +14,7 @@ ghost use Rattle.script.specs.LineMeaning.{meaning};
 use records::{Cut, Fault, RowId, Tx, Value};
 
 // A line of the script: a place is 0 to 15, any other number has 32 bits. `Bad`: "A line that isn't one of these forms is answered 2".
-#[derive(Drop)]
+#[derive(Clone, Copy)]
 pub enum Line {
     Begin(usize),
     Read(usize, RowId),
