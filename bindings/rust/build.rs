@@ -1,4 +1,4 @@
-//! Finds the archive that `rt staticlib replay_core` writes, and says what to do where it can't be linked;
+//! Finds the archive that `bindings/rust/test` makes of crate `replay_core_c`, and says what to do where it can't be linked;
 //! takes the numbers' texts from `docs/NUMBERS.md`.
 
 use std::env;
@@ -36,7 +36,7 @@ fn archive_dir() -> Result<PathBuf, String> {
     println!("cargo::rerun-if-changed={}", archive.display());
     if !archive.is_file() {
         return Err(format!(
-            "there is no {}: run 'rt staticlib replay_core' in the repository, or name the archive's folder by SLACK_LIB_DIR",
+            "there is no {}: run bindings/rust/test in the repository, which makes it, or name the archive's folder by SLACK_LIB_DIR",
             archive.display()
         ));
     }

@@ -35,10 +35,10 @@
 //!
 //! # What is trusted
 //!
-//! The work is done by `crates/replay_core`, whose functions are proved to meet their contracts
-//! (`docs/DECISIONS.md`, "Called from Rust"). What the proof can't see is this file: that the two
-//! functions are declared as they are exported, and called with what a Rust slice guarantees, and
-//! how [`Answers`] reads the answers' text.
+//! The work is done by `crates/replay_core`, whose functions are proved to meet their contracts, as are
+//! the two of `crates/replay_core_c` that export them (`docs/DECISIONS.md`, "Called from Rust"). What
+//! the proof can't see is this file: that the two functions are declared as they are exported, and
+//! called with what a Rust slice guarantees, and how [`Answers`] reads the answers' text.
 
 #![warn(missing_docs)]
 

@@ -1,5 +1,5 @@
 // The replay for callers in Rust or C: a script in one buffer, its answers into another. Any buffers will do: no function asks anything of them
-// beyond what the C form of a slice is, a pointer and a length.
+// beyond what the C form of a slice is, a pointer and a length. Crate `replay_core_c` exports the two public functions.
 
 ghost use Rattle.std.specs.Prelude.{◌≡◌};
 ghost use Rattle.replay_core.specs.Room.{line_feeds, room_in, Replayed};
@@ -25,8 +25,7 @@ fn line_feeds(script: &[u8]) -> usize
 }
 
 // So many bytes hold the answers to a script: an answer's room for each line feed, and once more.
-#[unsafe(no_mangle)]
-pub extern "C" fn slack_room(script: &[u8]) -> usize
+pub fn slack_room(script: &[u8]) -> usize
     ensures { result ≡ room_in script.now }
 {
     let feeds = line_feeds(script);
@@ -38,8 +37,7 @@ pub extern "C" fn slack_room(script: &[u8]) -> usize
 
 // Replays a script from the empty store: the answers are the first bytes of `out`, as many as this returns, and no other byte changes.
 // Without room for them it is 0.
-#[unsafe(no_mangle)]
-pub extern "C" fn slack_replay(script: &[u8], out: &mut [u8]) -> usize
+pub fn slack_replay(script: &[u8], out: &mut [u8]) -> usize
     ensures { Replayed script.now out.old out.new result }
 {
     if out.len() / Text::ROOM <= line_feeds(script) {
