@@ -4,7 +4,7 @@ use Rattle.std.proofs.Math.Path.{refl, sym, ap}
 use Rattle.std.proofs.Common.{◌∙◌, not-suc-le-zero, le_of_suc-le-suc, arith, take_all}
 use Rattle.std.proofs.Math.ListN.{length}
 use Rattle.records.specs.Limits.{stripes, partitions, places, write_limit}
-use Rattle.records.specs.Relations.{slots_placed, stripes_placed, partitions_placed}
+use Rattle.records.specs.Relations.{stripes_placed, partitions_placed}
 use Rattle.rules.specs.Lists.{all, pad}
 use Rattle.rules.specs.Types.{Store, Tx, Write}
 use Rattle.rules.specs.Transaction.{finals}

@@ -1,6 +1,6 @@
 -- A transaction's own slots as marks, without those that its final writes name: the recycled ones.
 use Rattle.std.specs.Prelude.{◌≡◌, refl, Bool, true, false, not, ◌&&◌, ◌||◌, List, [], ◌∷◌, map, ℕ, zero, suc, ◌+◌, ◌<◌, ◌≤◌, length, set, eqb}
-use Rattle.std.proofs.Common.{sym, ap, ◌∙◌, add-zero, arith, length-set, eq-eqb, ne_eqb}
+use Rattle.std.proofs.Common.{subst, sym, ap, ◌∙◌, add-zero, arith, length-set, eq-eqb, ne_eqb}
 use Rattle.std.proofs.Math.Seq.{set_out}
 use Rattle.records.specs.Limits.{places}
 use Rattle.rules.specs.Lists.{those, memb}
@@ -49,8 +49,11 @@ above k p (false ∷ m) h = above k (suc p) m (omega arith)
 
 unmark_one : (p : ℕ) (m : List Bool) (i : ℕ) → marked_from p (set m i false) ≡ those (λ q. not (eqb q (p + i))) (marked_from p m)
 unmark_one p [] i = refl
-unmark_one p (true ∷ m) zero = rw (add-zero p, eq-eqb p p refl) (sym (above p (suc p) m (omega arith)))
-unmark_one p (false ∷ m) zero = rw (add-zero p) (sym (above p (suc p) m (omega arith)))
+unmark_one p (true ∷ m) zero =
+    subst (λ y. marked_from (suc p) m ≡ those (λ q. not (eqb q y)) (p ∷ marked_from (suc p) m)) (sym (add-zero p))
+    (rw (eq-eqb p p refl) (sym (above p (suc p) m (omega arith))))
+unmark_one p (false ∷ m) zero =
+    subst (λ y. marked_from (suc p) m ≡ those (λ q. not (eqb q y)) (marked_from (suc p) m)) (sym (add-zero p)) (sym (above p (suc p) m (omega arith)))
 unmark_one p (b ∷ m) (suc i) =
     let e : suc p + i ≡ p + suc i = omega arith in
     go b (rw e at (unmark_one (suc p) m i))

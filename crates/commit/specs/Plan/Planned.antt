@@ -15,7 +15,7 @@ use Rattle.rules.specs.Fit.{fit}
 use Rattle.rules.specs.Puts.{Put, put_drop}
 use Rattle.rules.specs.Changes.{index_changes, changes, destinations, sources, index_guards}
 use Rattle.rules.specs.Changes.{partition_guards, insertions, removals, publication, recycling, stamping}
-use Rattle.rules.specs.Commit.{fails, count, rollback}
+use Rattle.rules.specs.Commit.{fails, count}
 use Rattle.run_laws.specs.Outcome.{worse}
 use Rattle.journal.specs.Journal.{put_limit}
 use Rattle.journal.specs.Adds.{Adds, adds_then}
