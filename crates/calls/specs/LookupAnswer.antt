@@ -83,9 +83,9 @@ rows_marked S x k marks z rests ok e =
     (candidates_marked S x k rise (fit_rows S x ok))
 
 -- a row list is its rows and their number
-row_list : (q : RowList) (l : List ℕ) → q ≡ row_list l → (q.at ≡ pad rows (as_row 0) (map as_row l)) × (q.count ≡ length l)
+row_list_law : (q : RowList) (l : List ℕ) → q ≡ row_list l → (q.at ≡ pad rows (as_row 0) (map as_row l)) × (q.count ≡ length l)
 unfolding row_list
-row_list q l e = (ap (λ (p : RowList). p.at) e, ap (λ (p : RowList). p.count) e)
+row_list_law q l e = (ap (λ (p : RowList). p.at) e, ap (λ (p : RowList). p.count) e)
 
 module _ (S : Store) (x : Tx) (k : ℕ) where
   abbrev reads_after : List ReadRecord
@@ -151,7 +151,7 @@ module _ (S : Store) (x : Tx) (k : ℕ) where
           let found : q ≡ row_list (matching S x k) =
           (rw (heads_whole S z, next_whole S z, xmin_whole S z, key_whole S z, has_whole S z, marked) at u)
           ∙ ap row_list (sym (matching_of_law S x k)) in
-          let parts = row_list q (matching S x k) found in
+          let parts = row_list_law q (matching S x k) found in
           let tx_is : y ≡ looked S.stamps x reads_after k = rw (stamps_whole S z) at (w reads_after list_is o) in
           (λ i. record { refusal = Done; rows = parts.0 i; count = parts.1 i; tx = tx_is i })
           ∙ choose_done done (none_found x) Done _ (then (rw o)) refl

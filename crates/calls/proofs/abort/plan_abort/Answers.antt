@@ -6,18 +6,13 @@ use Rattle.journal.specs.AtMarks.{abort_add}
 use Rattle.fields.specs.Lent.{at_rows, at_places, array_length}
 use Rattle.fields.specs.Walked.{marks_array}
 use Rattle.visibility.specs.OwnMarks.{own_marks, abort_marked}
-use borrow.Author.Rules.{rules}
-use Rattle.calls.proofs.abort.plan_abort.Statement.{statement}
-use Rattle.calls.proofs.abort.plan_abort.Tie as tie
+use Rattle.calls.proofs.abort.plan_abort.Goals as goal
 
-returns : tie.Need-returns
+pub returns : goal.returns
 returns c = λ heads next e.
-    let a = c.before.before.before.before.args in
+    let a = c.args in
     let seen = marks_array (at_rows heads) (at_places next) _ e in
-    let own = c.before.before.before.own_marks.ensures ∙ ap (λ s. own_marks (at_places a.xmin.now) s a.t.0) seen in
+    let own = c.own_marks-own.ensures ∙ ap (λ s. own_marks (at_places a.xmin.now) s a.t.0) seen in
     let long = array_length places 0 a.xmin.now in
     let law = abort_marked (at_rows heads) (at_places next) (at_places a.xmin.now) a.t.0 own (omega arith) in
-    rw law.1 at (abort_add c.before.before.before.own_marks.result law.0 a.t.0 c.push_abort.ensures)
-
-pub plan_abort_spec : {M : Type 1} → statement M
-plan_abort_spec = tie.close (tie.spec (λ c κs. search rules) (λ c κs. search rules) returns)
+    rw law.1 at (abort_add c.own_marks-own.result law.0 a.t.0 c.push_abort.ensures)
