@@ -14,7 +14,7 @@ mod trial;
 mod tries;
 
 use bench::Bench;
-use ending::written;
+use exits::written;
 use records::Schedule;
 use std::io;
 use std::process::ExitCode;

@@ -8,7 +8,7 @@ mod tally;
 ghost use Rattle.std.specs.Prelude.{◌≤◌};
 ghost use Rattle.looks.specs.Most.{most};
 
-use ending::written;
+use exits::written;
 use fields::lent::clipped;
 use packed::halving::{Place, find_place};
 use std::io;

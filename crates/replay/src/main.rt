@@ -5,7 +5,7 @@
 
 mod stream;
 
-use ending::{Ending, refused};
+use exits::{Exit, missing};
 use std::env::FillError;
 use std::process::ExitCode;
 use std::rt::{Env, Files};
@@ -14,16 +14,16 @@ use stream::{replay_all, replay_file};
 // What a path takes at most.
 const PATH: usize = 4096;
 
-fn replay_input<R: Input + Print + Eprint + AllocGlobal>(rt: &R) -> Ending {
+fn replay_input<R: Input + Print + Eprint + AllocGlobal>(rt: &R) -> Exit {
     replay_all(rt, &mut rt.reader(), "standard input")
 }
 
 // A name that isn't text gets a message, as a file that can't be opened does: files are opened by text alone.
-fn replay_path<R: Files + Input + Print + Eprint + AllocGlobal>(rt: &R, path: &[u8]) -> Ending {
+fn replay_path<R: Files + Input + Print + Eprint + AllocGlobal>(rt: &R, path: &[u8]) -> Exit {
     match str::from_utf8(path) {
         Ok("-") => replay_input(rt),
         Ok(path) => replay_file(rt, path),
-        Err(_) => refused(rt, path.escape_ascii(), "a file's name must be UTF-8"),
+        Err(_) => missing(rt, path.escape_ascii(), "a file's name must be UTF-8"),
     }
 }
 
@@ -31,28 +31,28 @@ fn replay_path<R: Files + Input + Print + Eprint + AllocGlobal>(rt: &R, path: &[
 fn replay_named<R: Env + Files + Input + Print + Eprint + AllocGlobal>(
     rt: &R,
     i: usize,
-) -> Option<Ending> {
+) -> Option<Exit> {
     let mut path = [0u8; PATH];
     match rt.arg(i, &mut path) {
         Ok(n) => Some(replay_path(rt, &path[..n])),
         Err(FillError::NotPresent) => None,
-        Err(FillError::TooLong) => Some(refused(rt, "a script's name", "File name too long")),
+        Err(FillError::TooLong) => Some(missing(rt, "a script's name", "File name too long")),
     }
 }
 
 // None where there is no argument. Where nobody reads the answers any more, nothing more is replayed.
-fn replay_names<R: Env + Files + Input + Print + Eprint + AllocGlobal>(rt: &R) -> Option<Ending> {
-    let mut ended = replay_named(rt, 1)?;
-    for i in 2..usize::MAX {
-        if ended == Ending::Unread {
-            break;
-        }
+fn replay_names<R: Env + Files + Input + Print + Eprint + AllocGlobal>(rt: &R) -> Option<Exit> {
+    let mut ended = None;
+    for i in 1..usize::MAX {
         let Some(next) = replay_named(rt, i) else {
             break;
         };
-        ended = ended.and(next);
+        ended = Some(ended.unwrap_or(Exit::Answered).and(next));
+        if next == Exit::Unread {
+            break;
+        }
     }
-    Some(ended)
+    ended
 }
 
 fn main(rt: HostRuntime) -> ExitCode {

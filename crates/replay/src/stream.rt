@@ -1,6 +1,6 @@
 // A script read from a file, replayed as it comes, and its answers written to standard output.
 
-use ending::{Ending, missing, written};
+use exits::{Exit, failed, written};
 use replay_core::feed::{Replay, feed, finish, start};
 use std::fs;
 use std::io::Read;
@@ -12,9 +12,9 @@ const PART: usize = 4096;
 // Room for answers; a part of a script that needs more is answered in several writes.
 const ROOM: usize = 16384;
 
-fn write_out<R: Print + Eprint + AllocGlobal>(rt: &R, answers: &[u8]) -> Result<(), Ending> {
+fn write_out<R: Print + Eprint + AllocGlobal>(rt: &R, answers: &[u8]) -> Result<(), Exit> {
     match written(rt, rt.write_all(answers)) {
-        Ending::Answered => Ok(()),
+        Exit::Answered => Ok(()),
         ended => Err(ended),
     }
 }
@@ -24,7 +24,7 @@ fn replay_part<R: Print + Eprint + AllocGlobal>(
     rt: &R,
     part: &[u8],
     r: Replay,
-) -> Result<Replay, Ending> {
+) -> Result<Replay, Exit> {
     let mut out = [0u8; ROOM];
     let mut next = r;
     let mut at: usize = 0;
@@ -39,7 +39,7 @@ fn replay_part<R: Print + Eprint + AllocGlobal>(
 }
 
 // A last line without a line feed.
-fn replay_end<R: Print + Eprint + AllocGlobal>(rt: &R, r: Replay) -> Result<(), Ending> {
+fn replay_end<R: Print + Eprint + AllocGlobal>(rt: &R, r: Replay) -> Result<(), Exit> {
     let mut out = [0u8; ROOM];
     let n = finish(r, &mut out);
     write_out(rt, &out[..n])
@@ -51,11 +51,11 @@ fn replay_some<R: Print + Eprint + AllocGlobal, S: Read>(
     script: &mut S,
     name: &str,
     r: Replay,
-) -> Result<Option<Replay>, Ending> {
+) -> Result<Option<Replay>, Exit> {
     let mut part = [0u8; PART];
     let n = match script.read(&mut part) {
         Ok(n) => n,
-        Err(why) => return Err(missing(rt, name, &why)),
+        Err(why) => return Err(failed(rt, name, &why)),
     };
     if n == 0 {
         replay_end(rt, r)?;
@@ -69,7 +69,7 @@ fn replay_rest<R: Print + Eprint + AllocGlobal, S: Read>(
     rt: &R,
     script: &mut S,
     name: &str,
-) -> Result<(), Ending> {
+) -> Result<(), Exit> {
     let mut r = start();
     for _ in 0..u64::MAX {
         match replay_some(rt, script, name, r)? {
@@ -84,17 +84,17 @@ pub fn replay_all<R: Print + Eprint + AllocGlobal, S: Read>(
     rt: &R,
     script: &mut S,
     name: &str,
-) -> Ending {
+) -> Exit {
     match replay_rest(rt, script, name) {
-        Ok(()) => Ending::Answered,
+        Ok(()) => Exit::Answered,
         Err(ended) => ended,
     }
 }
 
 // The same for the file of that name; one that can't be opened gets a message.
-pub fn replay_file<R: Files + Print + Eprint + AllocGlobal>(rt: &R, path: &str) -> Ending {
+pub fn replay_file<R: Files + Print + Eprint + AllocGlobal>(rt: &R, path: &str) -> Exit {
     match fs::open(rt, path) {
         Ok(mut script) => replay_all(rt, &mut script, path),
-        Err(why) => missing(rt, path, &why),
+        Err(why) => failed(rt, path, &why),
     }
 }
