@@ -3,7 +3,7 @@ use Rattle.std.proofs.Common.{refl, ◌∙◌, arith, length-set, rules}
 use Rattle.records.specs.Zero.{zero_tx}
 use Rattle.replay_core.specs.Turn.{place_in_below}
 use Rattle.replay_core.specs.Feed.{held_in}
-use Rattle.replay_core.specs.FeedLaws.{goes_none, within, on_feed, on_byte_law, feeds}
+use Rattle.replay_core.specs.FeedLaws.{goes_none, within, on_feed, on_byte_law}
 use Rattle.replay_core.proofs.feed.feed.Goals as goal
 
 pub loop-i-init : goal.loop-i-init
