@@ -1,5 +1,5 @@
 // The calls with the store lent and changed in place: each takes the store out, calls the value-form core and stores its result back.
-// Read and lookup change nothing, so they take it lent by `&`. Proved by hand: proofs/Walk.antt and proofs/Look.antt say what is shared.
+// Read and lookup change nothing, so they take it lent by `&`.
 
 #![tactic(auto)]
 
