@@ -45,39 +45,25 @@ fn replay_end<R: Print + Eprint + AllocGlobal>(rt: &R, r: Replay) -> Result<(), 
     write_out(rt, &out[..n])
 }
 
-// Reads once, and answers what came; none is left to replay where the script ended.
-fn replay_some<R: Print + Eprint + AllocGlobal, S: Read>(
-    rt: &R,
-    script: &mut S,
-    name: &str,
-    r: Replay,
-) -> Result<Option<Replay>, Exit> {
-    let mut part = [0u8; PART];
-    let n = match script.read(&mut part) {
-        Ok(n) => n,
-        Err(why) => return Err(failed(rt, name, &why)),
-    };
-    if n == 0 {
-        replay_end(rt, r)?;
-        return Ok(None);
-    }
-    Ok(Some(replay_part(rt, &part[..n], r)?))
-}
-
 // A proved loop has to end, and nothing says that a file does: so its turns are counted, up to a number that no run reaches.
 fn replay_rest<R: Print + Eprint + AllocGlobal, S: Read>(
     rt: &R,
     script: &mut S,
     name: &str,
 ) -> Result<(), Exit> {
+    let mut part = [0u8; PART];
     let mut r = start();
     for _ in 0..u64::MAX {
-        match replay_some(rt, script, name, r)? {
-            Some(next) => r = next,
-            None => break,
+        let n = match script.read(&mut part) {
+            Ok(n) => n,
+            Err(why) => return Err(failed(rt, name, &why)),
+        };
+        if n == 0 {
+            break;
         }
+        r = replay_part(rt, &part[..n], r)?;
     }
-    Ok(())
+    replay_end(rt, r)
 }
 
 pub fn replay_all<R: Print + Eprint + AllocGlobal, S: Read>(
