@@ -120,4 +120,5 @@ nonzero_all f l h = at_from f 0 l (λ p q e lt. let eq : p ≡ q = omega arith i
 pub mem_nonzero : (l : List ℕ) (p : ℕ) → memb p (nonzero_from 0 l) ≡ nonzero (get_or l p 0)
 mem_nonzero l p = iff (memb p (nonzero_from 0 l)) (nonzero (get_or l p 0))
     (λ m. all_mem (λ q. nonzero (get_or l q 0)) (nonzero_from 0 l) (nonzero_all (λ q. nonzero (get_or l q 0)) l (λ q lt. lt-ltb 0 (get_or l q 0) lt)) p m)
-    (λ n. all_nonzero (λ q. memb q (nonzero_from 0 l)) l (mem_all (λ q. memb q (nonzero_from 0 l)) (nonzero_from 0 l) (λ q m. m)) p (ltb-true 0 (get_or l p 0) n))
+    (λ n.
+    all_nonzero (λ q. memb q (nonzero_from 0 l)) l (mem_all (λ q. memb q (nonzero_from 0 l)) (nonzero_from 0 l) (λ q m. m)) p (ltb-true 0 (get_or l p 0) n))

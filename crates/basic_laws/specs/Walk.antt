@@ -31,7 +31,8 @@ module _ (next seen : List ℕ) where
   row_twice zero p h n k m = absurd (h refl)
   row_twice (suc f) p h n k m = simp (walk_row, ne_eqb p 0 n, le-ltb slots p k, ne_eqb _ 0 m)
 
-  pub row_step : (f g p : ℕ) → f ≡ suc g → (p ≡ 0 → ⊥) → p ≤ slots → get_or seen p 0 ≡ 0 → walk_row f next seen p ≡ walk_row g next (set seen p 1) (get_or next p 0)
+  pub row_step : (f g p : ℕ) → f ≡ suc g → (p ≡ 0 → ⊥) → p ≤ slots → get_or seen p 0 ≡ 0
+      → walk_row f next seen p ≡ walk_row g next (set seen p 1) (get_or next p 0)
   unfolding walk_row
   row_step f g p h n k m = rw h (simp (walk_row, ne_eqb p 0 n, le-ltb slots p k, eq-eqb _ 0 m))
 

@@ -37,7 +37,8 @@ module _ (act : List ℕ) (clock : ℕ) (F : ActiveForm act clock) where
   unfinished_below d t lt n = or_true (memb t (active_txids act)) (eqb t d) (unfinished_is d t n) (λ m. F.past t m) (λ e. omega (arith, eqb-true t d e))
 
 -- an active list laid out anew
-pub form_pad : (l : List ℕ) (clock : ℕ) → length l ≤ active_limit → Rising 1 l → ((t : ℕ) → memb t l ≡ true → t < clock) → ActiveForm (pad active_limit 0 l) clock
+pub form_pad : (l : List ℕ) (clock : ℕ) → length l ≤ active_limit → Rising 1 l → ((t : ℕ) → memb t l ≡ true → t < clock)
+    → ActiveForm (pad active_limit 0 l) clock
 form_pad l clock le c p =
     let e = active_of l le (is_rising 1 l c) in
     record {

@@ -69,7 +69,8 @@ begun_of active clock = let act = active_txids active in snapped clock (get_or a
 
 -- as code makes it, from a zero transaction z
 pub begun_is : (active : List ℕ) (clock oldest count : ℕ) (z : Tx) → oldest ≡ get_or (active_txids (at_active active)) 0 clock
-    → count ≡ length (active_txids (at_active active)) → z ≡ zero_tx → length active ≡ active_limit → snapped clock oldest active count z ≡ begun_of active clock
+    → count ≡ length (active_txids (at_active active)) → z ≡ zero_tx → length active ≡ active_limit
+    → snapped clock oldest active count z ≡ begun_of active clock
 unfolding begun_of
 begun_is active clock oldest count z o n e long =
     let whole = array_same active_limit 0 active long in

@@ -100,7 +100,8 @@ abbrev row_three : List Line → Cut → Value
 row_three ls cut = row_value (recover (commit (store_of ls) (tx_of ls) false no_faults cut).store).store 3
 
 -- old before step 21's store, new from it on; on a poisoned store the old value stays
-pub old_and_new : (row_three again (After 6) ≡ Key 35) × (row_three again (After 7) ≡ Key 51) × (row_three again Uncut ≡ Key 51) × (row_three spoilt Uncut ≡ Key 35)
+pub old_and_new : (row_three again (After 6) ≡ Key 35) × (row_three again (After 7) ≡ Key 51) × (row_three again Uncut ≡ Key 51)
+    × (row_three spoilt Uncut ≡ Key 35)
 unfolding morning spoilt again done written computing
 old_and_new = (refl, refl, refl, refl)
 
@@ -113,7 +114,8 @@ clock_at n = apply_all (put_clock n ∷ []) fresh
 
 -- as many reads as there may be, of slot 2, where slot 1 is to be read
 abbrev full_reads : Tx
-full_reads = with_reads (replicate read_limit (record { row = record { 0 = 0 }; ptr = record { 0 = 2 }; xmin = record { 0 = 0 } })) (tx_of (done ++ line_b 0 ∷ []))
+full_reads =
+    with_reads (replicate read_limit (record { row = record { 0 = 0 }; ptr = record { 0 = 2 }; xmin = record { 0 = 0 } })) (tx_of (done ++ line_b 0 ∷ []))
 
 -- every slot is used by the active txid 1
 abbrev pub no_slot : Store

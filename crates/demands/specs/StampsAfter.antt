@@ -13,7 +13,8 @@ use Rattle.rules.specs.Lists.{memb}
 use Rattle.rules.specs.Types.{Store, Tx, Write, Schedule, Answer, Cut, Uncut, After, Fate, Open, Closed, Refusal, NotResting, Unfit, NotActive}
 use Rattle.rules.specs.Transaction.{finals}
 use Rattle.rules.specs.Numbers.{number_of}
-use Rattle.rules.specs.Puts.{Put, k_stripe, k_partition, k_insert, k_remove, k_xmax, k_head, k_free, k_drop, k_stamp, k_poison, k_doom, put_drop, put_stamp, put_poison}
+use Rattle.rules.specs.Puts.{Put, k_stripe, k_partition, k_insert, k_remove, k_xmax, k_head, k_free}
+use Rattle.rules.specs.Puts.{k_drop, k_stamp, k_poison, k_doom, put_drop, put_stamp, put_poison}
 use Rattle.rules.specs.Puts.{apply, apply_all}
 use Rattle.rules.specs.Changes.{changes, destinations, changed_stripes, release, insertions, removals, publication, recycling}
 use Rattle.rules.specs.Changes.{stamping}

@@ -6,7 +6,8 @@ use Rattle.records.specs.Zero.{empty_store}
 use Rattle.rules.specs.Transaction.{with_reads}
 use Rattle.rules.specs.Faults.{F, B, P, X, Q}
 use Rattle.rules.specs.Numbers.{cause}
-use Rattle.rules.specs.Replay.{Line, line_b, line_r, line_w, line_l, line_k, line_c, line_f, line_v, num, dash, Out, says, Desk, desk_of, start, tx_at, laid, replay_from}
+use Rattle.rules.specs.Replay.{Line, line_b, line_r, line_w, line_l, line_k, line_c, line_f, line_v}
+use Rattle.rules.specs.Replay.{num, dash, Out, says, Desk, desk_of, start, tx_at, laid, replay_from}
 use Rattle.rules.specs.Computing.{computing}
 use Rattle.mornings.specs.Mornings.{morning, written, done}
 

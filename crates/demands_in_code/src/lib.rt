@@ -68,7 +68,8 @@ pub fn recover_and_read(s: Store, r: RowId) -> Seen
 pub fn recover_and_look(s: Store, k: u32) -> Found
     ensures { (result ≡ lookup (begin (recover s).store).store (begin (recover s).store).tx k)
         × (repairable s ≡ true → s.clock < clock_end → (found : List ℕ) × RowsWith (shown s) k found
-        × (k ≤ last_minute → length found ≤ read_limit → Answered (recover s).store k found result) × ((number_of result.refusal ≡ 24) ↔ (read_limit < length found))
+        × (k ≤ last_minute → length found ≤ read_limit → Answered (recover s).store k found result)
+        × ((number_of result.refusal ≡ 24) ↔ (read_limit < length found))
         × ((number_of result.refusal ≡ 31) ↔ (last_minute < k))) }
 {
     let mended = recover(s);

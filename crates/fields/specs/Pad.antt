@@ -1,6 +1,7 @@
 -- A list laid out in an array: one element more, and lists that are too long.
 use Rattle.std.specs.Prelude.{◌≡◌, refl, List, [], ◌∷◌, ◌++◌, ℕ, zero, suc, ◌+◌, ◌<◌, ◌≤◌, min, length, get_or, take, set, leb}
-use Rattle.std.proofs.Common.{sym, ap, ◌∙◌, not-suc-le-zero, le_of_suc-le-suc, add-one, arith, length-append, length-take, take_all, take-suc, length-take-le, leb-true, leb-false}
+use Rattle.std.proofs.Common.{sym, ap, ◌∙◌, not-suc-le-zero, le_of_suc-le-suc, add-one, arith, length-append}
+use Rattle.std.proofs.Common.{length-take, take_all, take-suc, length-take-le, leb-true, leb-false}
 use Rattle.std.proofs.Math.Nat.{suc-min-suc, zero-min}
 use Rattle.std.proofs.Math.Seq.{take-nil}
 use Rattle.rules.specs.Lists.{pad}

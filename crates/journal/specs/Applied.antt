@@ -70,7 +70,8 @@ NoneOf k (x ∷ l) = NoneOf k l × (k ≡ x → ⊥)
 -- the kinds, falling
 abbrev pub kinds : List ℕ
 kinds =
-    k_lock ∷ k_key ∷ k_next ∷ k_xmin ∷ k_clock ∷ k_enter ∷ k_doom ∷ k_poison ∷ k_stamp ∷ k_drop ∷ k_free ∷ k_head ∷ k_xmax ∷ k_remove ∷ k_insert ∷ k_partition ∷ k_stripe ∷ []
+    k_lock ∷ k_key ∷ k_next ∷ k_xmin ∷ k_clock ∷ k_enter ∷ k_doom ∷ k_poison ∷ k_stamp ∷ k_drop ∷ k_free ∷ k_head ∷ k_xmax ∷ k_remove ∷ k_insert
+    ∷ k_partition ∷ k_stripe ∷ []
 
 -- a put whose kind is none changes nothing
 pub apply_other : (p : Put) (S : Store) → NoneOf p.kind kinds → S ≡ apply p S

@@ -1,6 +1,7 @@
 -- What a journal holds after a push, and cut short.
 use Rattle.std.specs.Prelude.{◌≡◌, refl, Bool, true, false, cond, List, [], ◌∷◌, ◌++◌, ℕ, zero, suc, ◌+◌, ◌*◌, ◌/◌, ◌%◌, ◌≤◌, ◌<◌, length, get_or, set, take}
-use Rattle.std.proofs.Common.{sym, ap, ◌∙◌, ⊎_elim, mod-eq_of_lt, eq-or-lt_of_le, le_of_eq, add-one, arith, length-set, length-append, get_or-set_same, get_or-set_other, take_all, lt-ltb, le-leb}
+use Rattle.std.proofs.Common.{sym, ap, ◌∙◌, ⊎_elim, mod-eq_of_lt, eq-or-lt_of_le, le_of_eq, add-one, arith}
+use Rattle.std.proofs.Common.{length-set, length-append, get_or-set_same, get_or-set_other, take_all, lt-ltb, le-leb}
 use Rattle.std.proofs.lemmas.List.{take-append-le}
 use Rattle.records.specs.Limits.{key_end}
 use Rattle.rules.specs.Puts.{Put, last_kind}

@@ -1,5 +1,6 @@
 -- The journal: its words as puts, what pushing a put does, and what it holds.
-use Rattle.std.specs.Prelude.{◌≡◌, Bool, true, cond, ◌&&◌, ◌||◌, List, [], ◌∷◌, ◌++◌, ℕ, zero, suc, ◌+◌, ◌*◌, ◌/◌, ◌%◌, ◌≤◌, ◌<◌, length, get_or, set, eqb, ltb, leb}
+use Rattle.std.specs.Prelude.{◌≡◌, Bool, true, cond, ◌&&◌, ◌||◌, List, [], ◌∷◌, ◌++◌, ℕ, zero, suc}
+use Rattle.std.specs.Prelude.{◌+◌, ◌*◌, ◌/◌, ◌%◌, ◌≤◌, ◌<◌, length, get_or, set, eqb, ltb, leb}
 use Rattle.records.specs.Limits.{key_end}
 pub use Rattle.records.specs.Limits.{put_limit, place_base}
 use Rattle.rules.specs.Puts.{Put, put, k_head, k_next, k_key, last_kind}

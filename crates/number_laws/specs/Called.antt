@@ -52,7 +52,8 @@ module _ (S : Store) (x : Tx) (logged : Bool) (plan : Schedule) (sized : Sized S
 
   -- 15 failed: guards around it
   pub ten : fails S x logged plan 24 ≡ true
-      → apply_all (guards_taken S x logged plan ++ (part S x logged plan 15 (insertions S x) ++ ((rolling_back S x logged plan).puts ++ leaving S x logged plan))) S
+      → apply_all (guards_taken S x logged plan
+      ++ (part S x logged plan 15 (insertions S x) ++ ((rolling_back S x logged plan).puts ++ leaving S x logged plan))) S
       ≡ poisoned S x logged plan (with S x logged plan (left S x logged plan (some S x logged plan)))
   unfolding insertions
   ten e =
@@ -67,14 +68,16 @@ module _ (S : Store) (x : Tx) (logged : Bool) (plan : Schedule) (sized : Sized S
       ∙ undone_24 false n)
 
   pub ten_back : fails S x logged plan 24 ≡ false
-      → apply_all (guards_taken S x logged plan ++ (part S x logged plan 15 (insertions S x) ++ ((rolling_back S x logged plan).puts ++ leaving S x logged plan))) S
+      → apply_all (guards_taken S x logged plan
+      ++ (part S x logged plan 15 (insertions S x) ++ ((rolling_back S x logged plan).puts ++ leaving S x logged plan))) S
       ≡ S
   unfolding insertions
   ten_back e =
       let n = count S x logged plan 15 in
       let ds = take n (destinations (changes S x)) in
       rw (take_map put_insert n (destinations (changes S x)))
-      (ap (λ (c : Clean). apply_all (guards_taken S x logged plan ++ (map put_insert ds ++ (c.puts ++ release S x))) S) (rollback_done S x logged plan false ds e)
+      (ap (λ (c : Clean). apply_all (guards_taken S x logged plan ++ (map put_insert ds ++ (c.puts ++ release S x))) S)
+      (rollback_done S x logged plan false ds e)
       ∙ back_and_forth S x logged plan sized ok n)
 
   -- 16 failed: insertions, the poison of X and Q, rollback, abort, guards around them; w and u are the poison and the rollback

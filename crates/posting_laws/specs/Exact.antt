@@ -155,12 +155,20 @@ module _ (S : Store) (x : Tx) (ok : Ready S x) where
   -- .. from the store as it was
   pub changed_exact : Exact (apply_all (insertions S x ++ (removals S x ++ publication x)) S)
   changed_exact =
-      rw (sym (append_assoc (insertions S x) (removals S x) (publication x)), apply_all_append (insertions S x ++ removals S x) (publication x) S, index_changed)
+      rw (
+        sym (append_assoc (insertions S x) (removals S x) (publication x)),
+        apply_all_append (insertions S x ++ removals S x) (publication x) S,
+        index_changed,
+      )
       published_exact
 
   -- .. and each final write's row has its new slot as head
   pub changed_heads : (apply_all (insertions S x ++ (removals S x ++ publication x)) S).heads ≡ new_heads (finals x) S.heads
   unfolding publication
   changed_heads =
-      rw (sym (append_assoc (insertions S x) (removals S x) (publication x)), apply_all_append (insertions S x ++ removals S x) (publication x) S, index_changed)
+      rw (
+        sym (append_assoc (insertions S x) (removals S x) (publication x)),
+        apply_all_append (insertions S x ++ removals S x) (publication x) S,
+        index_changed,
+      )
       (publish_heads x.txid.0 (finals x) (posted new_postings S))

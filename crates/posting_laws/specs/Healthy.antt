@@ -18,7 +18,8 @@ use Rattle.rules.specs.Changes.{changes, destinations, insertions, stamping, rel
 use Rattle.rules.specs.Commit.{run_of, End, poison, fails, count, rollback, abort_or_poison}
 use Rattle.rules.specs.Answer.{uncut, commit}
 use Rattle.run_laws.specs.GuardPuts.{apply_all_append}
-use Rattle.run_laws.specs.Outcome.{guards_taken, after_insert, after_finish, aborting, rolling_back, worse, undoing, aborting_late, Taken, Passed, Spoil, unremoved}
+use Rattle.run_laws.specs.Outcome.{guards_taken, after_insert, after_finish, aborting, rolling_back}
+use Rattle.run_laws.specs.Outcome.{worse, undoing, aborting_late, Taken, Passed, Spoil, unremoved}
 use Rattle.run_laws.specs.Outcome.{unpublished, unrecycled, unfinished, Outcome, done, stays, aborts, uninserted, uncalled, spoils, unstamped, outcome}
 use Rattle.statements.specs.Words.{Admitted}
 use Rattle.run_laws.specs.FirstRows.{row_2, row_3, whole, given_back, stay_not, abort_not, called_not, spoil_not}

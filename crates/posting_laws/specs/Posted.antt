@@ -92,7 +92,8 @@ put_back_in : (cs l : List ℕ) (S : Store) → rising 0 l ≡ true → ((p : �
 put_back_in cs l S up new room =
     let more = into_all_length cs l in
     let back = rising_ext 0 0 (without_all (reverse cs) (into_all cs l)) l (rising_without_all (reverse cs) (into_all cs l) (rising_into_all cs l up)) up
-    (λ p. mem_without_all (reverse cs) (into_all cs l) p ∙ rw (mem_into_all cs l p, mem_reverse cs p) (by (memb p cs) (λ e. rw e (sym (new p e))) (λ e. rw e))) in
+    (λ p.
+    mem_without_all (reverse cs) (into_all cs l) p ∙ rw (mem_into_all cs l p, mem_reverse cs p) (by (memb p cs) (λ e. rw e (sym (new p e))) (λ e. rw e))) in
     ap (apply_all (map put_remove (reverse cs))) (inserted cs l S room)
     ∙ removed (reverse cs) (into_all cs l) S (omega arith)
     ∙ ap (λ (m : List ℕ). posted m S) back

@@ -97,7 +97,8 @@ module _ (S : Store) (x : Tx) (logged : Bool) (plan : Schedule) (sized : Sized S
 
   -- the run: guards, insertions, callback, rollback, abort, guards
   pub called_run : Ready S x → let ds = destinations (changes S x) in
-      apply_all ((guards_taken S x logged plan ++ map put_insert ds) ++ (called_back ++ (map put_remove (reverse ds) ++ (abort_puts S x.txid.0 ++ release S x))))
+      apply_all ((guards_taken S x logged plan ++ map put_insert ds)
+      ++ (called_back ++ (map put_remove (reverse ds) ++ (abort_puts S x.txid.0 ++ release S x))))
       S
       ≡ apply_all (called_back ++ abort_puts S x.txid.0) S
   called_run ok =

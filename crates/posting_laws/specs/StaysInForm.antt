@@ -57,7 +57,8 @@ module _ (p : Put) (T : Store) where
   unfolding postings_of postings_in_form
   remove_posts e f = (rw (e, f), rw (e, f))
 
-  pub leave_posts : is p k_insert ≡ false → is p k_remove ≡ false → (postings_of (apply p T) ≡ postings_of T) × (postings_in_form (apply p T) ≡ postings_in_form T)
+  pub leave_posts : is p k_insert ≡ false → is p k_remove ≡ false
+      → (postings_of (apply p T) ≡ postings_of T) × (postings_in_form (apply p T) ≡ postings_in_form T)
   unfolding postings_of postings_in_form
   leave_posts e f = (rw (e, f), rw (e, f))
 

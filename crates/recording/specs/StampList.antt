@@ -38,7 +38,8 @@ list_first l at count n long e a =
     λ i. record { at = b i; count = c i }
 
 -- the index reads of an array are no more than its places
-pub list_short : (q : IndexReadList) (l : List IndexRead) (count : ℕ) → length l ≡ index_read_limit → q ≡ index_read_list (take count l) → q.count ≤ index_read_limit
+pub list_short : (q : IndexReadList) (l : List IndexRead) (count : ℕ) → length l ≡ index_read_limit → q ≡ index_read_list (take count l)
+    → q.count ≤ index_read_limit
 unfolding index_read_list
 list_short q l count long e = let c : q.count ≡ length (take count l) = ap (λ p. p.count) e in omega (arith, length-take count l)
 

@@ -204,9 +204,12 @@ module _ (S : Store) (x : Tx) (logged : Bool) (plan : Schedule) where
 
   -- steps 15 on
   from_15 : Passed → Follows Outcome (committed x) 14 guards_taken
-      (prepare_index_destinations S x logged plan ∷ invoke_before_publish S x logged plan ∷ remove_index_sources S x logged plan ∷ publish_write_set S x logged plan
-      ∷ recycle_non_final_writes S x logged plan ∷ goes [] ∷ finish_transaction S x logged plan ∷ publish_index_stamps S x logged plan ∷ goes (release S x) ∷ [])
-  unfolding prepare_index_destinations invoke_before_publish remove_index_sources publish_write_set recycle_non_final_writes finish_transaction publish_index_stamps
+      (prepare_index_destinations S x logged plan ∷ invoke_before_publish S x logged plan ∷ remove_index_sources S x logged plan
+      ∷ publish_write_set S x logged plan
+      ∷ recycle_non_final_writes S x logged plan ∷ goes [] ∷ finish_transaction S x logged plan ∷ publish_index_stamps S x logged plan
+      ∷ goes (release S x) ∷ [])
+  unfolding prepare_index_destinations invoke_before_publish remove_index_sources publish_write_set recycle_non_final_writes finish_transaction
+      publish_index_stamps
   from_15 ok =
       follows_if _ (λ h. stop (uninserted ok (struck 15 F refl h))) (λ _. go (
       follows_if _ (λ h. stop (uncalled ok (called h).0 (called h).1)) (λ _. skip (

@@ -81,7 +81,8 @@ commit_fields p q = λ x. place_on p (λ i. mode_on q (λ m. line_c i m Uncut) x
 pub write_fields : (p q r : Bytes) → form 87 (p ∷ q ∷ r ∷ []) ≡ on_num (place_of p) (λ i. on_num (num_of q) (λ n. on_given (value_in r) (line_w i n)))
 write_fields p q r = λ x. place_on p (λ i. number_on q (λ n. value_on r (line_w i n) x) x) x
 
-pub cut_fields : (p q r : Bytes) → form 67 (p ∷ q ∷ r ∷ []) ≡ on_num (place_of p) (λ i. on_logged (mode_of q) (λ m. on_num (num_of r) (λ n. line_c i m (After n))))
+pub cut_fields : (p q r : Bytes)
+    → form 67 (p ∷ q ∷ r ∷ []) ≡ on_num (place_of p) (λ i. on_logged (mode_of q) (λ m. on_num (num_of r) (λ n. line_c i m (After n))))
 cut_fields p q r = λ x. place_on p (λ i. mode_on q (λ m. number_on r (λ n. line_c i m (After n)) x) x) x
 
 pub fault_fields : (p q r : Bytes) → form 70 (p ∷ q ∷ r ∷ []) ≡ on_num (num_of p) (λ n. on_byte (letter_of q) (λ l. on_num (num_of r) (line_f n l)))

@@ -8,8 +8,10 @@ use Rattle.rules.specs.Tests.{index_read_conflict, row_lock_conflict, serializat
 use Rattle.rules.specs.Changes.{changes, destinations}
 use Rattle.rules.specs.Faults.{F, B, P, X, Q}
 use Rattle.rules.specs.Commit.{strikes, count, abort_or_poison, rollback, index_changes_made, index_lock_keys, prepare_commit_record, run_prepare}
-use Rattle.rules.specs.Commit.{acquire_index_locks, acquire_partition_locks, ensure_unlogged_write_allowed, check_not_poisoned, test, prepare_index_destinations}
-use Rattle.rules.specs.Commit.{invoke_before_publish, remove_index_sources, publish_write_set, recycle_non_final_writes, finish_transaction, publish_index_stamps}
+use Rattle.rules.specs.Commit.{acquire_index_locks, acquire_partition_locks, ensure_unlogged_write_allowed}
+use Rattle.rules.specs.Commit.{check_not_poisoned, test, prepare_index_destinations}
+use Rattle.rules.specs.Commit.{invoke_before_publish, remove_index_sources, publish_write_set}
+use Rattle.rules.specs.Commit.{recycle_non_final_writes, finish_transaction, publish_index_stamps}
 use Rattle.rules.specs.Commit.{End, Step, goes, ends, steps, run, committed, run_of}
 use Rattle.rules.specs.Answer.{commit}
 use Rattle.statements.specs.FaultWords.{AlikeAt, NeverBeyond, FlushIgnored}

@@ -85,7 +85,8 @@ module _ (S : Store) (x : Tx) where
         refusal = (write S x r v).refusal;
         slot = record { 0 = lowest_free S.xmin };
         store = apply_all (take_slot (lowest_free S.xmin) x.txid.0 (base_of S x r) v) S;
-        tx = with_writes (writes_of x ++ record { row = record { 0 = r }; base = record { 0 = base_of S x r }; new = record { 0 = lowest_free S.xmin } } ∷ []) x;
+        tx =
+            with_writes (writes_of x ++ record { row = record { 0 = r }; base = record { 0 = base_of S x r }; new = record { 0 = lowest_free S.xmin } } ∷ []) x;
       }
   unfolding write admits
   write_accepted r v h = rw (write_why_law r v) (accepted (λ (a : Written). a.refusal) (tries (tries_of (write_lines_of S x r (impossible v)))) _ _ refl refl h)
@@ -118,7 +119,8 @@ module _ (S : Store) (x : Tx) where
   unfolding row_lock admits
   row_lock_told r = told (row_lock_lines S x r) refl
 
-  pub row_lock_refused : (r : ℕ) → (number_of (row_lock S x r).refusal ≡ 0 → ⊥) → row_lock S x r ≡ record { refusal = (row_lock S x r).refusal; store = S; tx = x }
+  pub row_lock_refused : (r : ℕ) → (number_of (row_lock S x r).refusal ≡ 0 → ⊥)
+      → row_lock S x r ≡ record { refusal = (row_lock S x r).refusal; store = S; tx = x }
   unfolding row_lock admits
   row_lock_refused r h = rw (ne_eqb (number_of (tries (tries_of (row_lock_lines S x r)))) 0 h)
 

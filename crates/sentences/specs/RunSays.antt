@@ -395,10 +395,13 @@ module _ (S : Store) (x : Tx) (logged : Bool) (plan : Schedule) where
   hit n = fails S x logged plan n
 
   from_15 : Beside 14 (takes S x logged plan)
-      (prepare_index_destinations S x logged plan ∷ invoke_before_publish S x logged plan ∷ remove_index_sources S x logged plan ∷ publish_write_set S x logged plan
-      ∷ recycle_non_final_writes S x logged plan ∷ goes [] ∷ finish_transaction S x logged plan ∷ publish_index_stamps S x logged plan ∷ goes (release S x) ∷ [])
+      (prepare_index_destinations S x logged plan ∷ invoke_before_publish S x logged plan ∷ remove_index_sources S x logged plan
+      ∷ publish_write_set S x logged plan
+      ∷ recycle_non_final_writes S x logged plan ∷ goes [] ∷ finish_transaction S x logged plan ∷ publish_index_stamps S x logged plan
+      ∷ goes (release S x) ∷ [])
       (rows15 S x logged plan) (done_row S x logged plan)
-  unfolding prepare_index_destinations invoke_before_publish remove_index_sources publish_write_set recycle_non_final_writes finish_transaction publish_index_stamps
+  unfolding prepare_index_destinations invoke_before_publish remove_index_sources publish_write_set recycle_non_final_writes finish_transaction
+      publish_index_stamps
       release events_of
   from_15 =
       let tens : Clean → List Put = λ c.

@@ -21,11 +21,13 @@ use Rattle.rules.specs.Chains.{walk, on}
 use Rattle.rules.specs.Admitted.{repairable}
 use Rattle.rules.specs.Puts.{Put, put_stripe, put_partition, put_insert, put_remove, put_free, put_drop, put_stamp, put_poison, own_slots, abort_puts}
 use Rattle.rules.specs.Changes.{Change, change_of, index_changes, changes, posting_in, destinations, sources, stripes_in, changed_stripes, guarded_stripes}
-use Rattle.rules.specs.Changes.{guarded_partitions, index_guards, partition_guards, release, publish_one, insertions, removals, publication, recycled, recycling}
+use Rattle.rules.specs.Changes.{guarded_partitions, index_guards, partition_guards, release}
+use Rattle.rules.specs.Changes.{publish_one, insertions, removals, publication, recycled, recycling}
 use Rattle.rules.specs.Changes.{stamping}
 use Rattle.rules.specs.Faults.{F, B, P, X, Q}
 use Rattle.rules.specs.Tests.{index_read_conflict, row_lock_conflict, serialization_conflict, write_base_conflict}
-use Rattle.rules.specs.Commit.{End, Step, goes, test, stop_if, strikes, fails, count, rollback, index_changes_made, index_lock_keys, prepare_commit_record, run_prepare}
+use Rattle.rules.specs.Commit.{End, Step, goes, test, stop_if, strikes, fails, count, rollback}
+use Rattle.rules.specs.Commit.{index_changes_made, index_lock_keys, prepare_commit_record, run_prepare}
 use Rattle.rules.specs.Commit.{acquire_index_locks, acquire_partition_locks, unlogged_writes, ensure_unlogged_write_allowed, check_not_poisoned}
 use Rattle.rules.specs.Commit.{prepare_index_destinations, invoke_before_publish, remove_index_sources, publish_write_set, recycle_non_final_writes}
 use Rattle.rules.specs.Commit.{finish_transaction, publish_index_stamps, steps, run, committed, run_of}

@@ -1,6 +1,8 @@
 -- "Store and transaction"; "A store is one guard, posting, xmax, head, slot, active-list, stamp or poison change."
-use Rattle.std.specs.Prelude.{◌≡◌, refl, Bool, true, false, not, ◌||◌, List, [], ◌∷◌, ◌++◌, map, ◌≢◌, ◌⊎◌, ◌↔◌, ℕ, zero, suc, ◌+◌, ◌/◌, ◌-◌, ◌≤◌, ◌<◌, length, get_or, set, take, drop, replicate, eqb, ltb, leb}
-use Rattle.std.proofs.Common.{sym, ap, ◌∙◌, inl, inr, ⊎_elim, arith, length-set, length-drop, length-append, get_or-set_same, get_or-set_other, get_or-take, get_or-drop, eqb-true, eq-eqb, ne_eqb, ltb-true, ltb-false, lt-ltb, le-ltb, le-leb}
+use Rattle.std.specs.Prelude.{◌≡◌, refl, Bool, true, false, not, ◌||◌, List, [], ◌∷◌, ◌++◌, map, ◌≢◌, ◌⊎◌, ◌↔◌, ℕ, zero}
+use Rattle.std.specs.Prelude.{suc, ◌+◌, ◌/◌, ◌-◌, ◌≤◌, ◌<◌, length, get_or, set, take, drop, replicate, eqb, ltb, leb}
+use Rattle.std.proofs.Common.{sym, ap, ◌∙◌, inl, inr, ⊎_elim, arith, length-set, length-drop, length-append, get_or-set_same, get_or-set_other}
+use Rattle.std.proofs.Common.{get_or-take, get_or-drop, eqb-true, eq-eqb, ne_eqb, ltb-true, ltb-false, lt-ltb, le-ltb, le-leb}
 use Rattle.std.proofs.lemmas.List.{length-replicate}
 use Rattle.std.proofs.Math.Seq.{length-take-le}
 use Rattle.std.proofs.lemmas.Bool.{eqb-false, not-true}
@@ -432,7 +434,8 @@ actives_are (x ∷ a) = by (eqb x 0)
       ends = h.ends;
     }))
   where
-    same : (x : ℕ) (l a : List ℕ) → ((i : ℕ) → i < length l → get_or l i 0 ≡ get_or a i 0) → (i : ℕ) → i < suc (length l) → get_or (x ∷ l) i 0 ≡ get_or (x ∷ a) i 0
+    same : (x : ℕ) (l a : List ℕ) → ((i : ℕ) → i < length l → get_or l i 0 ≡ get_or a i 0) → (i : ℕ) → i < suc (length l)
+        → get_or (x ∷ l) i 0 ≡ get_or (x ∷ a) i 0
     same x l a h zero lt = refl
     same x l a h (suc i) lt = h i (omega arith)
 

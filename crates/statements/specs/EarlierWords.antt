@@ -11,7 +11,8 @@ use Rattle.rules.specs.Commit.{prepare_commit_record, run_prepare, acquire_index
 use Rattle.rules.specs.Commit.{check_not_poisoned, prepare_index_destinations, invoke_before_publish, remove_index_sources, publish_write_set}
 use Rattle.rules.specs.Commit.{recycle_non_final_writes, flush_local_recycle_caches, finish_transaction, publish_index_stamps}
 use Rattle.rules.specs.Answer.{commit_by}
-use Rattle.rules.specs.Replay.{Line, line_b, line_r, line_w, line_l, line_k, line_a, line_c, line_f, line_v, line_bad, num, Out, Desk, Turn, start, tx_at, says, turn}
+use Rattle.rules.specs.Replay.{Line, line_b, line_r, line_w, line_l, line_k, line_a, line_c, line_f}
+use Rattle.rules.specs.Replay.{line_v, line_bad, num, Out, Desk, Turn, start, tx_at, says, turn}
 use Rattle.rules.specs.Script.{Bytes, split, lines_in, parse, decimal, third, replay_text}
 
 -- a test that said yes ended the run with a 7 that had a fate alone; here one and the same cause stands for none

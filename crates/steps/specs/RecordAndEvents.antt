@@ -36,6 +36,7 @@ record_if_law why x = refl
 unfoldable pub events_by : Bool → Bool → Bool → ℕ → Ending → Events
 events_by logged bound writing n a = events_of logged bound writing n (end_with a zero_tx)
 
-pub events_by_law : (logged bound writing : Bool) (n : ℕ) (a : Ending) (y : Tx) → events_of logged bound writing n (end_with a y) ≡ events_by logged bound writing n a
+pub events_by_law : (logged bound writing : Bool) (n : ℕ) (a : Ending) (y : Tx)
+    → events_of logged bound writing n (end_with a y) ≡ events_by logged bound writing n a
 unfolding events_of events_by
 events_by_law logged bound writing n a y = refl

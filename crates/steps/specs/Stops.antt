@@ -140,7 +140,8 @@ gate_of S x logged plan = first_true (map (λ g. g.when) (gates S x logged plan)
 
 -- a run of commit's steps is that of the gate
 pub run_at : (S : Store) (x : Tx) (logged : Bool) (plan : Schedule)
-    → run_of S x logged plan ≡ get_or (map (λ g. g.then) (gates S x logged plan) ++ clean S x logged plan ∷ []) (gate_of S x logged plan) (clean S x logged plan)
+    → run_of S x logged plan
+    ≡ get_or (map (λ g. g.then) (gates S x logged plan) ++ clean S x logged plan ∷ []) (gate_of S x logged plan) (clean S x logged plan)
 unfolding gate_of
 run_at S x logged plan = run_gates S x logged plan ∙ first_at (gates S x logged plan) (clean S x logged plan)
 

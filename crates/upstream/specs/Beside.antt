@@ -10,7 +10,8 @@ use Rattle.rules.specs.Puts.{k_doom, k_enter, k_clock, k_xmin, k_next, k_key, la
 use Rattle.rules.specs.Tests.{index_read_conflict, row_lock_conflict, read_conflict, serialization_conflict, write_base_conflict}
 use Rattle.rules.specs.Tests.{index_read_place, row_lock_place, serialization_place, write_base_place}
 use Rattle.rules.specs.Changes.{changes, index_guards, release, insertions, removals, recycled, recycling, stamping}
-use Rattle.rules.specs.Commit.{strikes, count, abort_or_poison, rollback, index_changes_made, index_lock_keys, prepare_commit_record, run_prepare, acquire_index_locks}
+use Rattle.rules.specs.Commit.{strikes, count, abort_or_poison, rollback, index_changes_made}
+use Rattle.rules.specs.Commit.{index_lock_keys, prepare_commit_record, run_prepare, acquire_index_locks}
 use Rattle.rules.specs.Commit.{acquire_partition_locks, ensure_unlogged_write_allowed, check_not_poisoned, prepare_index_destinations, invoke_before_publish}
 use Rattle.rules.specs.Commit.{remove_index_sources, publish_write_set, recycle_non_final_writes, finish_transaction, publish_index_stamps, steps}
 use Rattle.basic_laws.specs.Cases.{and_true}

@@ -8,7 +8,8 @@ use Rattle.rules.specs.Commit.{run_of}
 use Rattle.run_laws.specs.Outcome.{aborting, rolling_back, worse, undoing, aborting_late}
 use Rattle.run_laws.specs.Gates.{Gate, hit, gates}
 use Rattle.upstream.specs.Primitives.{index_validated, row_lock_validated, serial_validated, base_validated, Call, here, ensure_open, final_write_indices}
-use Rattle.upstream.specs.Primitives.{index_changes, index_lock_keys, acquire_index_locks, acquire_partition_locks, ensure_unlogged_write_allowed, unbound_if_ok}
+use Rattle.upstream.specs.Primitives.{index_changes, index_lock_keys, acquire_index_locks}
+use Rattle.upstream.specs.Primitives.{acquire_partition_locks, ensure_unlogged_write_allowed, unbound_if_ok}
 use Rattle.upstream.specs.Primitives.{check_not_poisoned, sound_if_ok, abort_for_serialization_failure, testing, prepare_commit_record, run_prepare}
 use Rattle.upstream.specs.Primitives.{poison_indexes, poison_if, abort_preparation, prepare_index_destinations, run_before_publish, resume_unwind}
 use Rattle.upstream.specs.Primitives.{rollback_prepared_commit, remove_index_sources, publish_prepared_write_set, publish_write_set, recycle_non_final_writes}

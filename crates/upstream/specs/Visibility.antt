@@ -2,7 +2,8 @@
 -- creator alone counts. On a resting store that isn't poisoned, for a transaction whose snapshot holds no txid below snapshot_xmin (begin makes no
 -- other), the first version of a chain that upstream sees is the first with a visible creator; outside that they differ, as a computed store shows.
 use Rattle.std.specs.Prelude.{◌≡◌, refl, Bool, true, false, not, ◌&&◌, ◌||◌, List, [], ◌∷◌, ◌++◌, ◌↔◌, ◌⊎◌, ℕ, ◌≤◌, ◌<◌, length, get_or, set, eqb, ltb, leb}
-use Rattle.std.proofs.Common.{sym, ap, ◌∙◌, append_assoc, append-nil, inl, inr, ⊎_elim, arith, eqb-true, eq-eqb, ne_eqb, ltb-true, ltb-false, lt-ltb, leb-true, le-leb}
+use Rattle.std.proofs.Common.{sym, ap, ◌∙◌, append_assoc, append-nil, inl, inr, ⊎_elim, arith}
+use Rattle.std.proofs.Common.{eqb-true, eq-eqb, ne_eqb, ltb-true, ltb-false, lt-ltb, leb-true, le-leb}
 use Rattle.std.proofs.lemmas.Bool.{eqb-false, not-true}
 use Rattle.records.specs.Limits.{rows, places}
 use Rattle.records.specs.Zero.{fresh, no_faults}

@@ -42,6 +42,7 @@ module _ (next xmin : List ℕ) (x : Tx) where
   visible_next (suc left) (suc p) t q h n e v d = let k : suc left - 1 ≡ left = omega arith in rw (k, ← e, v, d)
 
 -- from the row's head on
-pub visible_whole : (heads next xmin : List ℕ) (x : Tx) (r p : ℕ) → p ≡ get_or heads r 0 → visible_from next xmin x places p ≡ visible_version heads next xmin x r
+pub visible_whole : (heads next xmin : List ℕ) (x : Tx) (r p : ℕ) → p ≡ get_or heads r 0
+    → visible_from next xmin x places p ≡ visible_version heads next xmin x r
 unfolding visible_from visible_version
 visible_whole heads next xmin x r p e = rw e

@@ -86,7 +86,8 @@ all_those f g (x ∷ l) h =
     let r = all_those f g l a.1 in by (g x) (λ e. rw (e, a.0) r) (λ e. rw e r)
 
 -- the marks, read rising, are the definition's own slots
-pub own_marked : (heads next xmin : List ℕ) (t : ℕ) → length xmin ≤ places → marked_from 0 (own_marks xmin (walk heads next).seen t) ≡ own_slots heads next xmin t
+pub own_marked : (heads next xmin : List ℕ) (t : ℕ) → length xmin ≤ places
+    → marked_from 0 (own_marks xmin (walk heads next).seen t) ≡ own_slots heads next xmin t
 unfolding own_marks own_from no_slots
 own_marked heads next xmin t h =
     let f = own_slot xmin (walk heads next).seen t in

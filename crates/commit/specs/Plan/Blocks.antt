@@ -87,7 +87,8 @@ module _ {j after : List ℕ} {n r : ℕ} where
   pub index_guards_law : (S : Store) (x : Tx) (t : ℕ) {m : List Bool} → m ≡ guarded_marks (changes S x) x → fit S x ≡ true
       → MarksPut j n after r k_stripe t stripes m → Adds j n (index_guards S x t) after r
   unfolding index_guards
-  index_guards_law S x t e ok a = whole stripes (index_guards_few S x ok t) (marks_put k_stripe t stripes e (guarded_are S x ok) stripes_placed (omega arith) refl a)
+  index_guards_law S x t e ok a =
+      whole stripes (index_guards_few S x ok t) (marks_put k_stripe t stripes e (guarded_are S x ok) stripes_placed (omega arith) refl a)
 
   pub partition_guards_law : (x : Tx) (t : ℕ) {m : List Bool} → m ≡ partition_marks x → MarksPut j n after r k_partition t partitions m
       → Adds j n (partition_guards x t) after r

@@ -16,7 +16,8 @@ use Rattle.commit.specs.Plan.Planned.{Planned}
 -- g is the gate at which the run ends
 pub run_held : {S : Store} {x : Tx} {logged : Bool} {plan : Schedule} {p : Plan} {s : Struck} {j after : List ℕ} {r : ℕ} (g : ℕ)
     → Planned S x logged plan p s → g ≤ clean_gate
-    → (run_of S x logged plan).puts ≡ get_or (map (λ h. h.then.puts) (gates S x logged plan) ++ (clean S x logged plan).puts ∷ []) g (clean S x logged plan).puts
+    → (run_of S x logged plan).puts
+    ≡ get_or (map (λ h. h.then.puts) (gates S x logged plan) ++ (clean S x logged plan).puts ∷ []) g (clean S x logged plan).puts
     → Adds j 0 (puts_at S x logged plan g) after r → Holds after r (run_of S x logged plan).puts
 run_held {S} {x} {logged} {plan} g h le at a =
     let e = at ∙ puts_at_law S x logged plan g le in

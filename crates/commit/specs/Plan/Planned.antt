@@ -80,7 +80,8 @@ abbrev pub limit_at : ℕ → ℕ → ℕ → ℕ
 limit_at g own k = cond (ltb g own) 0 (cond (eqb g own) k put_limit)
 
 module _ {j after : List ℕ} {n r : ℕ} where
-  pub limited : (g own k l : ℕ) (ps : List Put) → length ps ≤ put_limit → l ≡ limit_at g own k → Adds j n (take l ps) after r → Adds j n (up_to own g k ps) after r
+  pub limited : (g own k l : ℕ) (ps : List Put) → length ps ≤ put_limit → l ≡ limit_at g own k → Adds j n (take l ps) after r
+      → Adds j n (up_to own g k ps) after r
   limited g own k l ps h e a = go (ltb g own) (eqb g own) (rw e at a)
     where
       go : (b c : Bool) → Adds j n (take (cond b 0 (cond c k put_limit)) ps) after r → Adds j n (cond b [] (cond c (take k ps) ps)) after r

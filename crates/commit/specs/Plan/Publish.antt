@@ -101,7 +101,8 @@ publishing_end t limit i ws h = rw (drop_of_length-le ws {i = i} h) (none limit)
 module _ (t limit i count : ℕ) (at : List Write) {j₀ j after : List ℕ} {n₀ n r left size : ℕ} {block : List Put} where
   pub push_one : all plain (take count at) ≡ true → i < min count (length at)
       → Pushing j₀ n₀ block (publishing t limit i (take count at)) j n
-      → (plain (get_or at i no_write) ≡ true → Adds j n (of_write t limit (get_or at i no_write)) after r) → size ≡ size_of (get_or at i no_write) → left ≡ limit - size
+      → (plain (get_or at i no_write) ≡ true → Adds j n (of_write t limit (get_or at i no_write)) after r) → size ≡ size_of (get_or at i no_write)
+      → left ≡ limit - size
       → Pushing j₀ n₀ block (publishing t left (i + 1) (take count at)) after r
   unfolding publishing of_write
   push_one ok lt h a s e =

@@ -64,7 +64,8 @@ module _ (kind : ℕ) (l : List ℕ) (i : ℕ) where
   unfolding listed_back
   back_clip limit = rw (take_clip i (length l) l refl)
 
-  back_take : (limit : ℕ) → 0 < limit → 0 < i → i ≤ length l → listed_back kind limit i l ≡ put kind 0 (get_or l (i - 1) 0) ∷ listed_back kind (limit - 1) (i - 1) l
+  back_take : (limit : ℕ) → 0 < limit → 0 < i → i ≤ length l
+      → listed_back kind limit i l ≡ put kind 0 (get_or l (i - 1) 0) ∷ listed_back kind (limit - 1) (i - 1) l
   unfolding listed_back
   back_take zero m p h = absurd (omega arith)
   back_take (suc n) m p h =

@@ -7,7 +7,8 @@ use lib.Seq.{slice}
 use Rattle.packed.proofs.shift.Given as goal
 
 abbrev pub invariant-loop-k : goal.invariant-loop-k
-invariant-loop-k l = (l.k ≤ l.m) × (length l.x ≡ length l.initial.x) × (take l.k l.x ++ l.carried ∷ slice l.k l.m l.x ≡ take l.i l.initial.x ++ l.v ∷ slice l.i l.m l.initial.x)
+invariant-loop-k l =
+    (l.k ≤ l.m) × (length l.x ≡ length l.initial.x) × (take l.k l.x ++ l.carried ∷ slice l.k l.m l.x ≡ take l.i l.initial.x ++ l.v ∷ slice l.i l.m l.initial.x)
 
 abbrev pub decreases-loop-k : goal.decreases-loop-k
 decreases-loop-k l = l.m - l.k

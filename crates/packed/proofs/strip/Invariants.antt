@@ -8,7 +8,8 @@ use Rattle.rules.specs.Lists.{without}
 use Rattle.packed.proofs.strip.Given as goal
 
 abbrev pub invariant-loop-i : goal.invariant-loop-i
-invariant-loop-i l = (l.kept ≤ l.i) × (l.i ≤ l.m) × (length l.x ≡ length l.initial.x) × (take l.kept l.x ++ without l.v (slice l.i l.m l.x) ≡ without l.v (take l.m l.initial.x))
+invariant-loop-i l =
+    (l.kept ≤ l.i) × (l.i ≤ l.m) × (length l.x ≡ length l.initial.x) × (take l.kept l.x ++ without l.v (slice l.i l.m l.x) ≡ without l.v (take l.m l.initial.x))
 
 abbrev pub decreases-loop-i : goal.decreases-loop-i
 decreases-loop-i l = l.m - l.i

@@ -14,7 +14,8 @@ abbrev pub invariant-loop-i : goal.invariant-loop-i
 invariant-loop-i l =
     (l.i ≤ l.n) × (l.n ≡ min l.x.index_read_count index_read_limit)
     × ((S : Store) → S.stamps ≡ at_stripes l.stamps
-    → answer_from (l.i + 1) (map (stamp_differs S) (first_from l.x.index_read_count l.x.index_reads l.i)) ≡ tested (index_read_conflict S l.x) (index_read_place S l.x))
+    → answer_from (l.i + 1) (map (stamp_differs S) (first_from l.x.index_read_count l.x.index_reads l.i))
+    ≡ tested (index_read_conflict S l.x) (index_read_place S l.x))
 
 abbrev pub decreases-loop-i : goal.decreases-loop-i
 decreases-loop-i l = l.n - l.i

@@ -12,7 +12,8 @@ use Rattle.fields.proofs.txids.in_snapshot.Given as goal
 
 abbrev pub invariant-loop-i : goal.invariant-loop-i
 invariant-loop-i l =
-    (l.i ≤ l.n) × (l.n ≡ min l.count active_limit) × (memb l.t.0 (first_from l.count (at_active l.snapshot) l.i) ≡ memb l.t.0 (take l.count (at_active l.snapshot)))
+    (l.i ≤ l.n) × (l.n ≡ min l.count active_limit)
+    × (memb l.t.0 (first_from l.count (at_active l.snapshot) l.i) ≡ memb l.t.0 (take l.count (at_active l.snapshot)))
 
 abbrev pub decreases-loop-i : goal.decreases-loop-i
 decreases-loop-i l = l.n - l.i

@@ -15,7 +15,8 @@ use Rattle.basic_laws.specs.Walk.{after, row_end, row_out}
 use Rattle.fields.specs.Walked.{row_high, row_twice, row_step, rows_end, rows_cons, after_end, after_stop}
 use Rattle.fields.proofs.walk.walk_all.Invariants.{whole}
 use Rattle.fields.proofs.walk.walk_all.Goals as goal
-use Rattle.fields.proofs.walk.walk_all.Goals.{then-left-eq0-via-then-left-eq0, then-left-eq0-via-else-left-eq0+then-i-gt-SLOTS, then-left-eq0-via-else-left-eq0+else-i-gt-SLOTS+then-seen-i-ne0}
+use Rattle.fields.proofs.walk.walk_all.Goals.{then-left-eq0-via-then-left-eq0, then-left-eq0-via-else-left-eq0+then-i-gt-SLOTS}
+use Rattle.fields.proofs.walk.walk_all.Goals.{then-left-eq0-via-else-left-eq0+else-i-gt-SLOTS+then-seen-i-ne0}
 
 pub rows-init : goal.rows-init
 unfolding no_marks walk

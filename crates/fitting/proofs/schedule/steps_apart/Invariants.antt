@@ -11,7 +11,8 @@ use Rattle.fitting.specs.Apart.{apart_left}
 use Rattle.fitting.proofs.schedule.steps_apart.Given as goal
 
 abbrev pub invariant-loop-i : goal.invariant-loop-i
-invariant-loop-i l = (l.i ≤ l.n) × (apart_left steps_differ l.n fault_limit no_fault l.faults l.i ≡ steps_apart (take l.n (array fault_limit no_fault l.faults)))
+invariant-loop-i l =
+    (l.i ≤ l.n) × (apart_left steps_differ l.n fault_limit no_fault l.faults l.i ≡ steps_apart (take l.n (array fault_limit no_fault l.faults)))
 
 abbrev pub decreases-loop-i : goal.decreases-loop-i
 decreases-loop-i l = l.n - l.i

@@ -11,7 +11,8 @@ use Rattle.fitting.specs.Apart.{apart_left}
 use Rattle.fitting.proofs.tx.writes_apart.Given as goal
 
 abbrev pub invariant-loop-i : goal.invariant-loop-i
-invariant-loop-i l = (l.i ≤ l.n) × (apart_left writes_differ l.n write_limit no_write l.writes l.i ≡ writes_apart (take l.n (array write_limit no_write l.writes)))
+invariant-loop-i l =
+    (l.i ≤ l.n) × (apart_left writes_differ l.n write_limit no_write l.writes l.i ≡ writes_apart (take l.n (array write_limit no_write l.writes)))
 
 abbrev pub decreases-loop-i : goal.decreases-loop-i
 decreases-loop-i l = l.n - l.i

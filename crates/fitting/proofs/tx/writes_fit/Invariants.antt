@@ -12,7 +12,8 @@ use Rattle.fitting.proofs.tx.writes_fit.Given as goal
 
 abbrev pub invariant-loop-i : goal.invariant-loop-i
 invariant-loop-i l =
-    (l.i ≤ l.n) × (first_left (write_at l.xmin l.next l.seen l.t) l.n write_limit no_write l.writes l.i ≡ all (write_at l.xmin l.next l.seen l.t) (take l.n (array write_limit no_write l.writes)))
+    (l.i ≤ l.n) × (first_left (write_at l.xmin l.next l.seen l.t) l.n write_limit no_write l.writes l.i
+    ≡ all (write_at l.xmin l.next l.seen l.t) (take l.n (array write_limit no_write l.writes)))
 
 abbrev pub decreases-loop-i : goal.decreases-loop-i
 decreases-loop-i l = l.n - l.i

@@ -13,8 +13,11 @@ loop-size-preserved-then-x-middle c =
 
 pub loop-size-preserved : goal.loop-size-preserved
 loop-size-preserved c =
-    let s = c.args in
-    (omega arith, omega arith, turn_before s.v s.n _ c.loop-size.from c.loop-size.size _ c.loop-size.invariant.2 (omega arith) (omega arith) c.if-x-middle.false)
+    let s = c.args in (
+      omega arith,
+      omega arith,
+      turn_before s.v s.n _ c.loop-size.from c.loop-size.size _ c.loop-size.invariant.2 (omega arith) (omega arith) c.if-x-middle.false,
+    )
 
 pub returns : goal.returns
 returns c =

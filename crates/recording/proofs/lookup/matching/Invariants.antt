@@ -11,7 +11,8 @@ abbrev pub invariant-loop-r : goal.invariant-loop-r
 invariant-loop-r l = (l.r ≤ rows)
     × Finding l.at l.count l.r
     (matching_of (at_rows l.heads) (at_places l.next) (at_places l.xmin) (at_places l.key) (flags_at_places l.has) l.x l.k (marked_at l.marks l.r))
-    (matching_of (at_rows l.heads) (at_places l.next) (at_places l.xmin) (at_places l.key) (flags_at_places l.has) l.x l.k (marked_rows (flags_at_rows l.marks)))
+    (matching_of (at_rows l.heads) (at_places l.next) (at_places l.xmin) (at_places l.key) (flags_at_places l.has) l.x l.k
+    (marked_rows (flags_at_rows l.marks)))
 
 abbrev pub decreases-loop-r : goal.decreases-loop-r
 decreases-loop-r l = rows - l.r

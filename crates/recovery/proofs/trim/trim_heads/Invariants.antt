@@ -10,7 +10,9 @@ use Rattle.recovery.proofs.trim.trim_heads.Given as goal
 
 abbrev pub invariant-loop-r : goal.invariant-loop-r
 invariant-loop-r l =
-    (length l.heads ≡ length l.initial.heads) × (map_left (trim_head (finished l.active l.doomed) l.xmin l.next) l.heads l.r ≡ map (trim_head (finished l.active l.doomed) l.xmin l.next) l.initial.heads)
+    (length l.heads ≡ length l.initial.heads)
+    × (map_left (trim_head (finished l.active l.doomed) l.xmin l.next) l.heads l.r
+    ≡ map (trim_head (finished l.active l.doomed) l.xmin l.next) l.initial.heads)
 
 abbrev pub decreases-loop-r : goal.decreases-loop-r
 decreases-loop-r l = length l.heads - l.r

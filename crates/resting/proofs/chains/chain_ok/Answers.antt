@@ -3,7 +3,8 @@ use mathlib.Core.Path.{sym, ◌∙◌}
 use Rattle.resting.specs.VersionTurns.{chain_none, first_over, first_zero_law, first_unfinished}
 use Rattle.resting.specs.VersionTurns.{ahead_over, ahead_alone, behind_other, behind_zero, behind_it}
 use Rattle.resting.proofs.chains.chain_ok.Goals as goal
-use Rattle.resting.proofs.chains.chain_ok.Goals.{else-over-ne0-via-then-over-ne0+else-is_finished-2, else-over-ne0-via-else-over-ne0, else-by-ne0-via-then-by-ne0+else-by-t, else-by-ne0-via-else-by-ne0}
+use Rattle.resting.proofs.chains.chain_ok.Goals.{else-over-ne0-via-then-over-ne0+else-is_finished-2, else-over-ne0-via-else-over-ne0}
+use Rattle.resting.proofs.chains.chain_ok.Goals.{else-by-ne0-via-then-by-ne0+else-by-t, else-by-ne0-via-else-by-ne0}
 
 pub returns-then-head-eq0 : goal.returns-then-head-eq0
 returns-then-head-eq0 c = chain_none _ _ _ _ _ _ c.if-head-eq0.true

@@ -10,7 +10,9 @@ use Rattle.resting.proofs.chains.chains_ok.Given as goal
 
 abbrev pub invariant-loop-r : goal.invariant-loop-r
 invariant-loop-r l =
-    (l.r ≤ rows) × (all_left (chain_at l.xmin l.xmax l.next l.active l.doomed) rows 0 l.heads l.r ≡ all (chain_at l.xmin l.xmax l.next l.active l.doomed) (at_rows l.heads))
+    (l.r ≤ rows)
+    × (all_left (chain_at l.xmin l.xmax l.next l.active l.doomed) rows 0 l.heads l.r
+    ≡ all (chain_at l.xmin l.xmax l.next l.active l.doomed) (at_rows l.heads))
 
 abbrev pub decreases-loop-r : goal.decreases-loop-r
 decreases-loop-r l = rows - l.r

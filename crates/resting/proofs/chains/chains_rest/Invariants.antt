@@ -10,7 +10,9 @@ use Rattle.resting.proofs.chains.chains_rest.Given as goal
 
 abbrev pub invariant-loop-i : goal.invariant-loop-i
 invariant-loop-i l =
-    (l.i ≤ places) × (used_left (rest_at l.xmin l.xmax l.active l.doomed l.seen) places l.xmin l.i ≡ all (rest_at l.xmin l.xmax l.active l.doomed l.seen) (used_slots (at_places l.xmin)))
+    (l.i ≤ places)
+    × (used_left (rest_at l.xmin l.xmax l.active l.doomed l.seen) places l.xmin l.i
+    ≡ all (rest_at l.xmin l.xmax l.active l.doomed l.seen) (used_slots (at_places l.xmin)))
 
 abbrev pub decreases-loop-i : goal.decreases-loop-i
 decreases-loop-i l = places - l.i

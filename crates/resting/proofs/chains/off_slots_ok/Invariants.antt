@@ -11,7 +11,8 @@ use Rattle.resting.proofs.chains.off_slots_ok.Given as goal
 abbrev pub invariant-loop-i : goal.invariant-loop-i
 invariant-loop-i l =
     (l.i ≤ places)
-    × (used_left (off_at l.xmin l.xmax l.next l.active l.doomed l.seen) places l.xmin l.i ≡ all (off_at l.xmin l.xmax l.next l.active l.doomed l.seen) (used_slots (at_places l.xmin)))
+    × (used_left (off_at l.xmin l.xmax l.next l.active l.doomed l.seen) places l.xmin l.i
+    ≡ all (off_at l.xmin l.xmax l.next l.active l.doomed l.seen) (used_slots (at_places l.xmin)))
 
 abbrev pub decreases-loop-i : goal.decreases-loop-i
 decreases-loop-i l = places - l.i

@@ -11,7 +11,8 @@ use Rattle.resting.proofs.postings.each_told.Given as goal
 
 abbrev pub invariant-loop-i : goal.invariant-loop-i
 invariant-loop-i l =
-    (l.i ≤ l.n) × (first_left (told_at l.heads l.key l.has) l.n posting_limit 0 l.postings l.i ≡ all (told_at l.heads l.key l.has) (take l.n (array posting_limit 0 l.postings)))
+    (l.i ≤ l.n) × (first_left (told_at l.heads l.key l.has) l.n posting_limit 0 l.postings l.i
+    ≡ all (told_at l.heads l.key l.has) (take l.n (array posting_limit 0 l.postings)))
 
 abbrev pub decreases-loop-i : goal.decreases-loop-i
 decreases-loop-i l = l.n - l.i

@@ -8,7 +8,8 @@ use Rattle.visibility.proofs.chain.visible_version.Given as goal
 
 abbrev pub invariant-loop-left : goal.invariant-loop-left
 invariant-loop-left l =
-    (l.left ≤ places) × (visible_from (at_places l.next) (at_places l.xmin) l.x l.left l.p.0 ≡ visible_from (at_places l.next) (at_places l.xmin) l.x places l.initial.p.0)
+    (l.left ≤ places)
+    × (visible_from (at_places l.next) (at_places l.xmin) l.x l.left l.p.0 ≡ visible_from (at_places l.next) (at_places l.xmin) l.x places l.initial.p.0)
 
 abbrev pub decreases-loop-left : goal.decreases-loop-left
 decreases-loop-left l = l.left

@@ -10,7 +10,8 @@ use Rattle.commit.proofs.plan.guards.written_partitions.Given as goal
 
 abbrev pub invariant-loop-i : goal.invariant-loop-i
 invariant-loop-i l =
-    (l.i ≤ l.n) × (l.n ≡ min l.x.write_count write_limit) × (mark_all (map partition_written (first_from l.x.write_count l.x.writes l.i)) l.q ≡ written_marks l.x)
+    (l.i ≤ l.n) × (l.n ≡ min l.x.write_count write_limit)
+    × (mark_all (map partition_written (first_from l.x.write_count l.x.writes l.i)) l.q ≡ written_marks l.x)
 
 abbrev pub decreases-loop-i : goal.decreases-loop-i
 decreases-loop-i l = l.n - l.i

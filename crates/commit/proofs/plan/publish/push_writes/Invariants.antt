@@ -13,7 +13,8 @@ use Rattle.commit.proofs.plan.publish.push_writes.Given as goal
 abbrev pub invariant-loop-i : goal.invariant-loop-i
 invariant-loop-i l =
     (l.i ≤ l.end) × (l.end ≡ min l.count write_limit)
-    × (all plain (take l.count l.at) ≡ true → Pushing l.initial.j l.n (publishing l.t l.limit 0 (take l.count l.at)) (publishing l.t l.left l.i (take l.count l.at)) l.j l.k)
+    × (all plain (take l.count l.at) ≡ true
+    → Pushing l.initial.j l.n (publishing l.t l.limit 0 (take l.count l.at)) (publishing l.t l.left l.i (take l.count l.at)) l.j l.k)
 
 abbrev pub decreases-loop-i : goal.decreases-loop-i
 decreases-loop-i l = l.end - l.i

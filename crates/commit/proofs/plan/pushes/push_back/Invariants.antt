@@ -11,7 +11,9 @@ use Rattle.commit.proofs.plan.pushes.push_back.Given as goal
 
 abbrev pub invariant-loop-i : goal.invariant-loop-i
 invariant-loop-i l =
-    (l.i ≤ length l.codes) × (l.kind ≤ last_kind → narrow l.kind ≡ false → Pushing l.initial.j l.n (listed_back l.kind l.limit l.from l.codes) (listed_back l.kind l.left l.i l.codes) l.j l.k)
+    (l.i ≤ length l.codes)
+    × (l.kind ≤ last_kind → narrow l.kind ≡ false
+    → Pushing l.initial.j l.n (listed_back l.kind l.limit l.from l.codes) (listed_back l.kind l.left l.i l.codes) l.j l.k)
 
 abbrev pub decreases-loop-i : goal.decreases-loop-i
 decreases-loop-i l = l.i

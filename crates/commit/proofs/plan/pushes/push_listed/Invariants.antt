@@ -11,7 +11,8 @@ use Rattle.commit.proofs.plan.pushes.push_listed.Given as goal
 
 abbrev pub invariant-loop-i : goal.invariant-loop-i
 invariant-loop-i l =
-    (l.i ≤ length l.codes) × (l.kind ≤ last_kind → narrow l.kind ≡ false → Pushing l.initial.j l.n (listed l.kind l.limit 0 l.codes) (listed l.kind l.left l.i l.codes) l.j l.k)
+    (l.i ≤ length l.codes)
+    × (l.kind ≤ last_kind → narrow l.kind ≡ false → Pushing l.initial.j l.n (listed l.kind l.limit 0 l.codes) (listed l.kind l.left l.i l.codes) l.j l.k)
 
 abbrev pub decreases-loop-i : goal.decreases-loop-i
 decreases-loop-i l = length l.codes - l.i
