@@ -25,7 +25,7 @@ fn archive_dir() -> Result<PathBuf, String> {
     if !(target.starts_with("x86_64-") && target.contains("-linux-")) {
         return Err(format!(
             "the archive is machine code for x86-64 Linux, and this build is for {target}: build for \
-             x86_64-unknown-linux-gnu, or replay scripts by './run replay', which runs on Arm too"
+             x86_64-unknown-linux-gnu"
         ));
     }
     let dir = match env::var_os("SLACK_LIB_DIR") {
