@@ -11,7 +11,7 @@ use script::Line;
 use script::print::Text;
 
 // A replay under way: the store, the transactions of the places, the pending faults, the line under way, how many lines were answered.
-#[derive(Drop)]
+#[derive(Clone, Copy)]
 pub struct Replay {
     pub store: Store,
     pub txs: [Tx; Line::PLACES],
@@ -21,7 +21,7 @@ pub struct Replay {
 }
 
 // What a part leaves, how many of its bytes were taken, and how many bytes the answers have.
-#[derive(Drop)]
+#[derive(Clone, Copy)]
 pub struct Fed {
     pub replay: Replay,
     pub taken: usize,

@@ -7,7 +7,7 @@ ghost use Rattle.replay_core.specs.Feed.{held_room, held_in};
 
 use script::{Line, parse_line};
 
-#[derive(Drop)]
+#[derive(Clone, Copy)]
 pub struct Held {
     pub bytes: [u8; Held::ROOM],
     pub count: usize,
