@@ -13,7 +13,7 @@ use script::Line;
 use script::print::{More, Third};
 
 // What a line leaves, and what it answers: the number, the third field, and what follows it.
-#[derive(Clone, Copy)]
+#[derive(Drop)]
 pub struct Turned {
     pub store: Store,
     pub tx: Tx,
