@@ -7,13 +7,13 @@ ghost use Rattle.std.specs.Prelude.{◌≡◌};
 ghost use Rattle.records.specs.Zero.{fresh, zero_tx, no_faults};
 
 // A txid, a row id and a slot pointer can't be mixed up.
-#[derive(Clone, Copy)]
+#[derive(Clone, Copy, PartialEq, Eq)]
 pub struct Txid(pub u64);
 
-#[derive(Clone, Copy)]
+#[derive(Clone, Copy, PartialEq, Eq)]
 pub struct RowId(pub usize);
 
-#[derive(Clone, Copy)]
+#[derive(Clone, Copy, PartialEq, Eq)]
 pub struct SlotPtr(pub u32);
 
 impl Txid {
@@ -39,7 +39,7 @@ impl SlotPtr {
 }
 
 // A 32-bit key, or none.
-#[derive(Clone, Copy)]
+#[derive(Clone, Copy, PartialEq, Eq)]
 pub enum Value {
     Absent,
     Key(u32),
@@ -107,7 +107,7 @@ impl Store {
 }
 
 // Source 002's CommittedWrite: row_id, base_offset, new_offset.
-#[derive(Clone, Copy)]
+#[derive(Clone, Copy, PartialEq, Eq)]
 pub struct Write {
     pub row: RowId,
     pub base: SlotPtr,
@@ -123,7 +123,7 @@ impl Write {
 }
 
 // Source 002's ReadRecord: row_id, row_ptr, xmin.
-#[derive(Clone, Copy)]
+#[derive(Clone, Copy, PartialEq, Eq)]
 pub struct ReadRecord {
     pub row: RowId,
     pub ptr: SlotPtr,
@@ -138,7 +138,7 @@ impl ReadRecord {
     };
 }
 
-#[derive(Clone, Copy)]
+#[derive(Clone, Copy, PartialEq, Eq)]
 pub struct IndexRead {
     pub stripe: u32,
     pub stamp: Txid,
@@ -209,7 +209,7 @@ impl Tx {
 }
 
 // A fault at a step: its letter in ASCII, and k.
-#[derive(Clone, Copy)]
+#[derive(Clone, Copy, PartialEq, Eq)]
 pub struct Fault {
     pub step: u32,
     pub letter: u8,
@@ -253,14 +253,14 @@ impl Schedule {
 }
 
 // The stores after which a commit is stopped.
-#[derive(Clone, Copy)]
+#[derive(Clone, Copy, PartialEq, Eq)]
 pub enum Cut {
     Uncut,
     After(u32),
 }
 
 // What became of the transaction of a refused call: open; closed; poisoned and undone; poisoned and standing.
-#[derive(Clone, Copy)]
+#[derive(Clone, Copy, PartialEq, Eq)]
 pub enum Fate {
     Open,
     Closed,
@@ -270,7 +270,7 @@ pub enum Fate {
 
 // What a conflict met: a busy guard, or the first entry that conflicts of the test that said yes, by its place. Test 11's place 0 is index_conflict,
 // and the index reads follow from 1; 12 and 14 count in the write list, 13 in the read list, from 0.
-#[derive(Clone, Copy)]
+#[derive(Clone, Copy, PartialEq, Eq)]
 pub enum Cause {
     BusyGuard,
     IndexReadAt(usize),
@@ -281,7 +281,7 @@ pub enum Cause {
 
 // Each refusal carries its fate inside it, and a conflict its cause too. `Done`, number 0, is none; the crate `rules` gives the others their numbers,
 // 1 to 28 in this order, and 31 to the last.
-#[derive(Clone, Copy)]
+#[derive(Clone, Copy, PartialEq, Eq)]
 pub enum Refusal {
     Done,
     NotResting(Fate),
