@@ -5,6 +5,7 @@ pub mod Rearranged
 -- lists, and tests of lists
 pub mod Members
 pub mod AllOf
+pub mod Chains
 pub mod FirstTrue
 pub mod FinalPlaces
 pub mod Rising
