@@ -38,7 +38,7 @@ impl SlotPtr {
     pub const PLACES: usize = SlotPtr::SLOTS + 1;
 }
 
-// A 32-bit key, or none.
+// A 32-bit key, or none. (No Option: a script's field is an `Option<Value>`, and of two Options one in the other neither says which is absent.)
 #[derive(Clone, Copy, PartialEq, Eq)]
 pub enum Value {
     Absent,
@@ -50,8 +50,9 @@ impl Value {
     pub const LAST_MINUTE: u32 = 527039;
 }
 
-// A slot's fields stand in seven arrays at the slot's place: a free slot is all zero, and so is place 0. The posting (key, row) is
-// the number key * ROWS + row, so that rising numbers are rising postings. Active txids stand before the first 0.
+// A slot's fields stand in seven arrays at the slot's place (the definitions read each as a list of its own, `S.xmin`, `S.next` ..): a free slot is
+// all zero, and so is place 0. The posting (key, row) is the number key * ROWS + row, so that rising numbers are rising postings. Active txids stand
+// before the first 0.
 #[derive(Clone, Copy)]
 pub struct Store {
     pub heads: [u32; RowId::ROWS],
@@ -208,7 +209,7 @@ impl Tx {
     }
 }
 
-// A fault at a step: its letter in ASCII, and k.
+// A fault at a step: its letter in ASCII, and k. (A letter and no enum: a script may plan any from A to Z, and the commit that takes it judges.)
 #[derive(Clone, Copy, PartialEq, Eq)]
 pub struct Fault {
     pub step: u32,
@@ -252,7 +253,7 @@ impl Schedule {
     }
 }
 
-// The stores after which a commit is stopped.
+// The stores after which a commit is stopped. (No Option: `None` as the last argument of a commit wouldn't say what there is none of.)
 #[derive(Clone, Copy, PartialEq, Eq)]
 pub enum Cut {
     Uncut,
@@ -279,8 +280,9 @@ pub enum Cause {
     WriteBaseAt(usize),
 }
 
-// Each refusal carries its fate inside it, and a conflict its cause too. `Done`, number 0, is none; the crate `rules` gives the others their numbers,
-// 1 to 28 in this order, and 31 to the last.
+// Each refusal carries its fate inside it, and a conflict its cause too. `Done`, number 0, is none (and no Ok of a Result: the paper puts the refusal into
+// the answer beside record and store, and `Committed` says so of a done one); the crate `rules` gives the others their numbers, 1 to 28 in this order,
+// and 31 to the last.
 #[derive(Clone, Copy, PartialEq, Eq)]
 pub enum Refusal {
     Done,

@@ -11,10 +11,5 @@ use records::Schedule;
 pub fn allowed_at(step: u32) -> u8
     ensures { result ≡ get_or masks step 0 }
 {
-    let at = step as usize;
-    if at < Schedule::FAULTS {
-        Schedule::ALLOWED[at]
-    } else {
-        0
-    }
+    Schedule::ALLOWED.get(step as usize).copied().unwrap_or(0)
 }
