@@ -9,21 +9,21 @@ ghost use Rattle.rules.specs.Answer.{commit};
 ghost use Rattle.rules.specs.Recovery.{recover};
 ghost use Rattle.inplace.specs.Answered.{told, wrote, committed};
 
-mod parts;
+mod beside;
 
 use records::{
     Cut, Events, Found, Record, Refusal, RowId, Schedule, Seen, SlotPtr, Store, Tx, Value,
 };
 
 // What begin, row lock and abort answer beside the store.
-#[derive(Drop)]
+#[derive(Clone, Copy)]
 pub struct Told {
     pub refusal: Refusal,
     pub tx: Tx,
 }
 
 // What write answers beside it.
-#[derive(Drop)]
+#[derive(Clone, Copy)]
 pub struct Wrote {
     pub refusal: Refusal,
     pub slot: SlotPtr,
@@ -31,7 +31,7 @@ pub struct Wrote {
 }
 
 // What commit answers beside it.
-#[derive(Drop)]
+#[derive(Clone, Copy)]
 pub struct Committed {
     pub refusal: Refusal,
     pub record: Record,
@@ -44,8 +44,8 @@ pub fn begin_in(s: &mut Store) -> Told
     ensures { (s.new ≡ (begin s.old).store) × (result ≡ told (begin s.old)) }
 {
     let begun = calls::begin::begin(*s);
-    *s = parts::reply_store(begun);
-    parts::reply_told(begun)
+    *s = begun.store;
+    Told::from(begun)
 }
 
 pub fn read_in(s: &Store, x: Tx, r: RowId) -> Seen
@@ -58,8 +58,8 @@ pub fn write_in(s: &mut Store, x: Tx, r: RowId, v: Value) -> Wrote
     ensures { (s.new ≡ (write s.old x r.0 v).store) × (result ≡ wrote (write s.old x r.0 v)) }
 {
     let written = calls::write::write(*s, x, r, v);
-    *s = parts::written_store(written);
-    parts::written_told(written)
+    *s = written.store;
+    Wrote::from(written)
 }
 
 pub fn lookup_in(s: &Store, x: Tx, k: u32) -> Found
@@ -72,30 +72,30 @@ pub fn row_lock_in(s: &mut Store, x: Tx, r: RowId) -> Told
     ensures { (s.new ≡ (row_lock s.old x r.0).store) × (result ≡ told (row_lock s.old x r.0)) }
 {
     let locked = calls::lock::row_lock(*s, x, r);
-    *s = parts::reply_store(locked);
-    parts::reply_told(locked)
+    *s = locked.store;
+    Told::from(locked)
 }
 
 pub fn abort_in(s: &mut Store, x: Tx) -> Told
     ensures { (s.new ≡ (abort s.old x).store) × (result ≡ told (abort s.old x)) }
 {
     let aborted = calls::abort::abort(*s, x);
-    *s = parts::reply_store(aborted);
-    parts::reply_told(aborted)
+    *s = aborted.store;
+    Told::from(aborted)
 }
 
 pub fn commit_in(s: &mut Store, x: Tx, logged: bool, plan: Schedule, cut: Cut) -> Committed
     ensures { (s.new ≡ (commit s.old x logged plan cut).store) × (result ≡ committed (commit s.old x logged plan cut)) }
 {
     let answer = commit::commit(*s, x, logged, plan, cut);
-    *s = parts::answer_store(answer);
-    parts::answer_told(answer)
+    *s = answer.store;
+    Committed::from(answer)
 }
 
 pub fn recover_in(s: &mut Store) -> Refusal
     ensures { (s.new ≡ (recover s.old).store) × (result ≡ (recover s.old).refusal) }
 {
     let mended = recovery::recover(*s);
-    *s = parts::mended_store(mended);
-    parts::mended_told(mended)
+    *s = mended.store;
+    mended.refusal
 }
