@@ -1,7 +1,6 @@
 -- What read and write find for a row, from the fields of the store that they read.
 use Rattle.std.specs.Prelude.{◌≡◌, refl, cond, List, ℕ, eqb}
-use borrow.Author.Tests.{ne_eqb}
-use Rattle.rules.specs.Types.{Store, Tx, Write}
+use Rattle.rules.specs.Types.{Store, Tx}
 use Rattle.rules.specs.Transaction.{last_own, writes_of}
 use Rattle.rules.specs.Calls.{visible_version, read_ptr, base_of}
 
@@ -20,24 +19,3 @@ read_ptr_law S x r = refl
 pub base_of_law : (S : Store) (x : Tx) (r : ℕ) → base_of S x r ≡ base_of_row S.heads S.next S.xmin x r
 unfolding base_of base_of_row
 base_of_law S x r = refl
-
--- without an own write it is the visible version
-module _ (heads next xmin : List ℕ) (x : Tx) (r : ℕ) (own : Write) (last : own ≡ last_own r (writes_of x)) where
-  module _ (p : ℕ) (none : own.new.0 ≡ 0) (e : p ≡ visible_version heads next xmin x r) where
-    pub read_chain : p ≡ read_ptr_of heads next xmin x r
-    unfolding read_ptr_of
-    read_chain = rw (← last, none) e
-
-    pub base_chain : p ≡ base_of_row heads next xmin x r
-    unfolding base_of_row
-    base_chain = rw (← last, none) e
-
-  -- else the own write says it
-  module _ (some : own.new.0 ≡ 0 → ⊥) where
-    pub read_own : own.new.0 ≡ read_ptr_of heads next xmin x r
-    unfolding read_ptr_of
-    read_own = rw (← last, ne_eqb own.new.0 0 some)
-
-    pub base_own : own.base.0 ≡ base_of_row heads next xmin x r
-    unfolding base_of_row
-    base_own = rw (← last, ne_eqb own.new.0 0 some)

@@ -1,4 +1,3 @@
-pub mod Sight
 pub mod Own
 pub mod ChainTurns
 pub mod Found

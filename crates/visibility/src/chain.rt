@@ -4,32 +4,21 @@ ghost use Rattle.std.specs.Prelude.{◌≡◌};
 ghost use Rattle.rules.specs.Calls.{visible_version};
 ghost use Rattle.fields.specs.Lent.{at_rows, at_places};
 
-use super::sees_by;
+use super::sees;
 use fields::lent::{head_of, pointer_at, txid_at};
-use records::{RowId, SlotPtr, Tx};
+use records::{RowId, SlotPtr, Store, Tx};
 
 // The first version of the row's chain with a visible creator, null if there is none. A chain has no more versions than there are places.
-pub fn visible_version<'a>(
-    heads: &'a [u32; RowId::ROWS],
-    next: &'a [u32; SlotPtr::PLACES],
-    xmin: &'a [u64; SlotPtr::PLACES],
-    x: Tx,
-    r: RowId,
-) -> SlotPtr
-    ensures { result.0 ≡ visible_version (at_rows heads.now) (at_places next.now) (at_places xmin.now) x r.0 }
+pub fn visible_version(s: &Store, x: &Tx, r: RowId) -> SlotPtr
+    ensures { result.0 ≡ visible_version (at_rows s.now.heads) (at_places s.now.next) (at_places s.now.xmin) x.now r.0 }
 {
-    let mut p = head_of(heads, r);
-    let mut left = SlotPtr::PLACES;
-    while 0 < left {
-        if p.0 == 0 {
-            return SlotPtr::NULL;
-        }
-        let t = txid_at(xmin, p);
-        if sees_by(&x.snapshot, x.snapshot_count, x.txid, x.snapshot_xmax, t) {
+    let mut p = head_of(&s.heads, r);
+    for _ in 0..SlotPtr::PLACES {
+        // the null pointer belongs to its type: it ends a chain, and is the answer where no version is visible
+        if p == SlotPtr::NULL || sees(x, txid_at(&s.xmin, p)) {
             return p;
         }
-        p = pointer_at(next, p);
-        left -= 1;
+        p = pointer_at(&s.next, p);
     }
     SlotPtr::NULL
 }

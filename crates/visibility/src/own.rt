@@ -1,28 +1,29 @@
 // The transaction's own writes.
 
-ghost use Rattle.std.specs.Prelude.{◌≡◌};
+ghost use Rattle.std.specs.Prelude.{◌≡◌, take};
 ghost use Rattle.rules.specs.Transaction.{last_own, writes_of};
 
-use fields::lent::clipped;
-use records::{RowId, Tx, Write};
+use records::{RowId, SlotPtr, Tx, Write};
 
-// The last own write of a row; its new pointer is null if there is none.
-pub fn last_own(x: Tx, r: RowId) -> Write
-    ensures { result ≡ last_own r.0 (writes_of x) }
+// The last own write of a row; `Write::NONE`, whose new pointer is null, if there is none: the definition's answer then, by the paper's null pointer.
+pub fn last_own(x: &Tx, r: RowId) -> Write
+    ensures { result ≡ last_own r.0 (writes_of x.now) }
 {
-    let mut own = Write::NONE;
-    let mut i = clipped(x.write_count, Tx::WRITES);
-    while 0 < i {
-        i -= 1;
-        // an earlier write counts only as long as no later one has a slot
-        if own.new.0 == 0 {
-            let w = x.writes[i];
-            if w.row.0 == r.0 {
-                own = w;
-            } else {
-                own = Write::NONE;
-            }
+    last_in(&x.writes, x.write_count, r)
+}
+
+// The last write of a row among the first `count`, going back: an earlier one counts only as long as no later one has a slot.
+fn last_in(writes: &[Write; Tx::WRITES], count: usize, r: RowId) -> Write
+    ensures { result ≡ last_own r.0 (take count writes.now) }
+{
+    let n = count.min(Tx::WRITES);
+    writes[..n].iter().rev().fold(Write::NONE, |own, w| {
+        if own.new != SlotPtr::NULL {
+            own
+        } else if w.row == r {
+            *w
+        } else {
+            Write::NONE
         }
-    }
-    own
+    })
 }

@@ -7,9 +7,9 @@ ghost use Rattle.fields.specs.Lent.{at_places, flags_at_places};
 ghost use Rattle.visibility.specs.Slots.{own_slot};
 
 use fields::lent::{flag_at, key_at, mark_at, txid_at};
-use records::{SlotPtr, Txid, Value};
+use records::{SlotPtr, Store, Txid, Value};
 
-// The lowest free slot, null if there is none.
+// The lowest free slot; the null pointer, which belongs to its type, if there is none.
 pub fn lowest_free(xmin: &[u64; SlotPtr::PLACES]) -> SlotPtr
     ensures { result.0 ≡ lowest_free (at_places xmin.now) }
 {
@@ -24,15 +24,11 @@ pub fn lowest_free(xmin: &[u64; SlotPtr::PLACES]) -> SlotPtr
 }
 
 // The value of a slot; none for a free one, for null and for a slot that is none.
-pub fn value_at<'a>(
-    key: &'a [u32; SlotPtr::PLACES],
-    has: &'a [bool; SlotPtr::PLACES],
-    p: SlotPtr,
-) -> Value
-    ensures { result ≡ value_at (at_places key.now) (flags_at_places has.now) p.0 }
+pub fn value_at(s: &Store, p: SlotPtr) -> Value
+    ensures { result ≡ value_at (at_places s.now.key) (flags_at_places s.now.has) p.0 }
 {
-    if flag_at(has, p) {
-        Value::Key(key_at(key, p))
+    if flag_at(&s.has, p) {
+        Value::Key(key_at(&s.key, p))
     } else {
         Value::Absent
     }

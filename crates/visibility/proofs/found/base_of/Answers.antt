@@ -1,9 +1,11 @@
 -- `base_of` meets its contract: by whether the row has an own write.
-use Rattle.visibility.specs.Found.{base_chain, base_own}
+use Rattle.visibility.specs.Found.{base_of_row}
 use Rattle.visibility.proofs.found.base_of.Goals as goal
 
-pub returns-then-last-eq0 : goal.returns-then-last-eq0
-returns-then-last-eq0 c = base_chain _ _ _ _ _ _ c.last_own-last.ensures _ c.if-last-eq0.true c.visible_version.ensures
+pub returns-then-eq : goal.returns-then-eq
+unfolding base_of_row
+returns-then-eq c = rw (← c.last_own-last.ensures, ← c.eq.ensures, c.if-eq.true) c.visible_version.ensures
 
-pub returns-else-last-eq0 : goal.returns-else-last-eq0
-returns-else-last-eq0 c = base_own _ _ _ _ _ _ c.last_own-last.ensures c.if-last-eq0.false
+pub returns-else-eq : goal.returns-else-eq
+unfolding base_of_row
+returns-else-eq c = rw (← c.last_own-last.ensures, ← c.eq.ensures, c.if-eq.false)
