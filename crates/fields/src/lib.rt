@@ -1,5 +1,5 @@
-// How code reads what it is lent: the store's arrays within their bounds, and the few tests that every call asks. Nothing is known of the
-// length of a lent array's list, so a contract reads it through `array`.
+// How code reads what it is lent: the store's arrays within their bounds, and the few tests that every call asks. A contract reads the list of
+// a lent array through `array`, whatever its length.
 
 #![tactic(auto)]
 

@@ -17,9 +17,8 @@ pub fn walk_all<'a>(
 {
     *seen = [0; SlotPtr::PLACES];
     let mut ok = true;
-    let mut r: usize = 0;
-    'rows: while r < RowId::ROWS {
-        let mut p = heads[r];
+    'rows: for head in heads {
+        let mut p = *head;
         let mut left = SlotPtr::PLACES;
         while p != 0 {
             let i = place(p);
@@ -31,7 +30,6 @@ pub fn walk_all<'a>(
             p = next[i];
             left -= 1;
         }
-        r += 1;
     }
     ok
 }
