@@ -10,14 +10,7 @@ use records::Txid;
 pub fn active_count(active: &[u64; Txid::ACTIVE]) -> usize
     ensures { result ≡ length (active_txids (at_active active.now)) }
 {
-    let mut i: usize = 0;
-    while i < Txid::ACTIVE {
-        if active[i] == 0 {
-            return i;
-        }
-        i += 1;
-    }
-    i
+    active.iter().take_while(|a| **a != 0).count()
 }
 
 // The smallest active txid: the list rises, so it is the first; `clock` if there is none.

@@ -1,6 +1,6 @@
 // What a transaction sees: creators, versions of a row, its own writes, slots, the active list. Each function takes the store, its arrays or the
-// transaction lent, and answers what its definition in the crate `rules` says, on every input. Nothing is known of the length of a lent array's
-// list, so a contract reads it through `array`.
+// transaction lent, and answers what its definition in the crate `rules` says, on every input. A contract reads the list of a lent array through `array`,
+// whatever its length.
 
 #![tactic(auto)]
 

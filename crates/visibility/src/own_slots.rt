@@ -16,14 +16,9 @@ pub fn own_marks<'a>(
     ensures { result ≡ own_marks (at_places xmin.now) (at_places seen.now) t.0 }
 {
     let mut m = [false; SlotPtr::PLACES];
-    let mut i: usize = 0;
-    while i < SlotPtr::PLACES {
-        let at = i;
-        i += 1;
-        if xmin[at] != 0 {
-            if is_own(xmin, seen, t, SlotPtr(at as u32)) {
-                m[at] = true;
-            }
+    for i in 0..SlotPtr::PLACES {
+        if xmin[i] != 0 && is_own(xmin, seen, t, SlotPtr(i as u32)) {
+            m[i] = true;
         }
     }
     m

@@ -13,12 +13,10 @@ use records::{SlotPtr, Store, Txid, Value};
 pub fn lowest_free(xmin: &[u64; SlotPtr::PLACES]) -> SlotPtr
     ensures { result.0 ≡ lowest_free (at_places xmin.now) }
 {
-    let mut i: usize = 1;
-    while i < SlotPtr::PLACES {
+    for i in 1..SlotPtr::PLACES {
         if xmin[i] == 0 {
             return SlotPtr(i as u32);
         }
-        i += 1;
     }
     SlotPtr::NULL
 }
@@ -43,10 +41,5 @@ pub(crate) fn is_own<'a>(
 ) -> bool
     ensures { result ≡ own_slot (at_places xmin.now) (at_places seen.now) t.0 p.0 }
 {
-    let o = txid_at(xmin, p);
-    if o.0 == t.0 {
-        mark_at(seen, p) == 0
-    } else {
-        false
-    }
+    txid_at(xmin, p) == t && mark_at(seen, p) == 0
 }

@@ -11,10 +11,10 @@ unfolding free_from lowest_free
 loop-i-init c = search rules
 
 pub returns-then-xmin-i-eq0 : goal.returns-then-xmin-i-eq0
-returns-then-xmin-i-eq0 c = sym (free_here _ _ (omega arith) c.if-xmin-i-eq0.true) ∙ c.loop-i.invariant.1
+returns-then-xmin-i-eq0 c = sym (free_here _ _ (omega arith) c.if-xmin-i-eq0.true) ∙ c.loop-i.invariant
 
 pub loop-i-preserved : goal.loop-i-preserved
-loop-i-preserved c = (omega arith, sym (free_next_law _ _ (omega arith) c.if-xmin-i-eq0.false) ∙ c.loop-i.invariant.1)
+loop-i-preserved c = sym (free_next_law _ _ (omega arith) c.if-xmin-i-eq0.false) ∙ c.loop-i.invariant
 
 pub returns : goal.returns
-returns c = sym (free_end _ _ (omega arith)) ∙ c.loop-i.invariant.1
+returns c = sym (free_end _ _ (omega arith)) ∙ c.loop-i.invariant
