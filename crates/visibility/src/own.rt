@@ -12,7 +12,8 @@ pub fn last_own(x: &Tx, r: RowId) -> Write
     last_in(&x.writes, x.write_count, r)
 }
 
-// The last write of a row among the first `count`, going back: an earlier one counts only as long as no later one has a slot.
+// The same of the first `count` writes, going back: an earlier one counts only as long as no later one has a slot. By itself, since the length of
+// a lent array is known where it is a parameter.
 fn last_in(writes: &[Write; Tx::WRITES], count: usize, r: RowId) -> Write
     ensures { result ≡ last_own r.0 (take count writes.now) }
 {
