@@ -8,4 +8,5 @@ use Rattle.fields.proofs.lent.zeros_from.Goals as goal
 
 pub returns : goal.returns
 returns c =
-    all_from_yields_List is_zero _ _ _ c.all.ensures.ran (YieldsList-from_skip c.args.n (YieldsList-from_slice c.args.x.now cc) cc) (λ x b q k. search (rules, tests))
+    all_from_yields_List is_zero _ _ _ c.all.ensures.ran (YieldsList-from_skip c.args.n (YieldsList-from_slice c.args.x.now cc) cc)
+    (λ x b q k. search (rules, tests))

@@ -16,6 +16,7 @@ returns c =
     let long : length l ≡ active_limit = search rules in
     rw (array_same active_limit 0 l long)
     (any_from_yields_List (λ x. x == t) _ _ _ c.any.ensures.ran
-    (YieldsList-from_take_while _ (λ y. not (y == 0)) (YieldsList-from_slice l cc) c.take_while.ensures.closure c.take_while.ensures.done (λ x b q k. search (rules, tests)))
+    (YieldsList-from_take_while _ (λ y. not (y == 0)) (YieldsList-from_slice l cc) c.take_while.ensures.closure c.take_while.ensures.done
+    (λ x b q k. search (rules, tests)))
     (λ x b q k. search (rules, tests))
     ∙ memb_of_list t (take_while (λ y. not (y == 0)) l) ∙ ap (memb t) (before_zero_of_list l))

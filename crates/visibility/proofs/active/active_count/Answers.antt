@@ -14,5 +14,6 @@ returns c =
     let long : length l ≡ active_limit = search rules in
     rw (array_same active_limit 0 l long)
     (count_from_yields_List _ _ c.count.ensures.ran
-    (YieldsList-from_take_while _ (λ y. not (y == 0)) (YieldsList-from_slice l cc) c.take_while.ensures.closure c.take_while.ensures.done (λ x b q k. search (rules, tests)))
+    (YieldsList-from_take_while _ (λ y. not (y == 0)) (YieldsList-from_slice l cc) c.take_while.ensures.closure c.take_while.ensures.done
+    (λ x b q k. search (rules, tests)))
     ∙ ap length (before_zero_of_list l))

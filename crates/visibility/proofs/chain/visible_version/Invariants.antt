@@ -8,4 +8,5 @@ use Rattle.visibility.proofs.chain.visible_version.Given as goal
 
 abbrev pub invariant-loop : goal.invariant-loop
 invariant-loop l =
-    visible_from (at_places l.s.next) (at_places l.s.xmin) l.x (places - l.counter) l.p.0 ≡ visible_from (at_places l.s.next) (at_places l.s.xmin) l.x places l.initial.p.0
+    visible_from (at_places l.s.next) (at_places l.s.xmin) l.x (places - l.counter) l.p.0
+    ≡ visible_from (at_places l.s.next) (at_places l.s.xmin) l.x places l.initial.p.0

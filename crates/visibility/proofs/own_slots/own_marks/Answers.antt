@@ -18,12 +18,14 @@ loop-i-preserved c =
     let i = c.loop-i.i in
     elim c.if-xmin-i-ne0.branch [
       | then-xmin-i-ne0+then-is_own w ↦
-          rw w.m-is (rw (own_here xmin seen t i (omega (arith, c.loop-i-test.true)) w.if-xmin-i-ne0.true w.is_own.ensures w.if-is_own.true) at c.loop-i.invariant)
+          rw w.m-is
+          (rw (own_here xmin seen t i (omega (arith, c.loop-i-test.true)) w.if-xmin-i-ne0.true w.is_own.ensures w.if-is_own.true) at c.loop-i.invariant)
       | else-xmin-i-ne0 w ↦
           rw w.m-is (elim w.else-xmin-i-ne0.branch [
             | else-xmin-i-ne0-via-then-xmin-i-ne0+else-is_own v ↦
                 rw (own_not xmin seen t i (omega (arith, c.loop-i-test.true)) v.if-xmin-i-ne0.true v.is_own.ensures v.if-is_own.false) at c.loop-i.invariant
-            | else-xmin-i-ne0-via-else-xmin-i-ne0 v ↦ rw (own_free xmin seen t i (omega (arith, c.loop-i-test.true)) v.if-xmin-i-ne0.false) at c.loop-i.invariant
+            | else-xmin-i-ne0-via-else-xmin-i-ne0 v ↦
+                rw (own_free xmin seen t i (omega (arith, c.loop-i-test.true)) v.if-xmin-i-ne0.false) at c.loop-i.invariant
           ])
     ]
 
