@@ -1,31 +1,31 @@
 -- A number put in its place among the first of an array: what code does there is what `into` does with the list.
-use Rattle.std.specs.Prelude.{◌≡◌, refl, cond, List, [], ◌∷◌, ◌++◌, ℕ, suc, ◌+◌, ◌≤◌, ◌<◌, min, length, get_or, set, take, drop, ltb}
-use Rattle.std.proofs.Common.{sym, ap, ◌∙◌, append_assoc, arith, length-append, length-take-le, take-suc-set, take-take, get_or-take, drop-set-lt}
-use Rattle.std.proofs.Math.Numerals.{add-one}
-use Rattle.std.proofs.Math.Seq.{take-set-lt, slice, slice_empty, slice-cons, length-slice}
-use borrow.Author.Tests.{ltb-true, ltb-false, eq-eqb, ne_eqb, lt-ltb, le-ltb}
+use Rattle.std.specs.Prelude.{◌≡◌, refl, cond, List, [], ◌∷◌, ◌++◌, ℕ, suc, ◌+◌, ◌-◌, ◌≤◌, ◌<◌, min, length, get_or, set, take, drop, take_while, leb, ltb}
+use Rattle.std.specs.List.{prefix_len, copy_within}
+use Rattle.std.proofs.Common.{sym, ap, ◌∙◌, append_assoc, append-nil, arith, one-add, add-one, length-append, length-drop, length-take-le, take_all, take-add}
+use Rattle.std.proofs.Common.{take-take, get_or-take, take-suc}
+use Rattle.std.proofs.lemmas.List.{drop-take, set_at}
+use Rattle.std.proofs.lemmas.List.Edits.{take-paste}
+use Rattle.std.proofs.lemmas.List.Folds.{length-prefix_len}
+use Rattle.std.proofs.Math.Seq.{take-set-lt, slice, length-slice}
+use borrow.Author.Tests.{ltb-true, ltb-false, leb-true, leb-false, eq-eqb, ne_eqb, lt-ltb, le-ltb}
+use Rattle.fields.specs.Pad.{pad_over}
 use Rattle.rules.specs.Lists.{into, pad}
 use Rattle.basic_laws.specs.Cases.{by}
-use Rattle.packed.specs.Packed.{Packed, take_within}
+use Rattle.packed.specs.Packed.{Packed, take_within, pad_whole}
 
 -- how many numbers come before the first that is not below v
 unfoldable pub ahead : ℕ → List ℕ → ℕ
 ahead v [] = 0
 ahead v (y ∷ l) = cond (ltb y v) (suc (ahead v l)) 0
 
--- counted place by place: those passed and those ahead from there on are t
-module _ (v : ℕ) (x : List ℕ) (i m : ℕ) {t : ℕ} (lt : i < m) (le : m ≤ length x) (e : i + ahead v (slice i m x) ≡ t) where
-  pub ahead_stop : v ≤ get_or x i 0 → i ≡ t
-  unfolding ahead
-  ahead_stop h = omega (arith, rw (slice-cons i m x 0 lt le, le-ltb (get_or x i 0) v h) at e)
-
-  pub ahead_more : get_or x i 0 < v → i + 1 + ahead v (slice (i + 1) m x) ≡ t
-  unfolding ahead
-  ahead_more h = rw add-one (omega (arith, rw (slice-cons i m x 0 lt le, lt-ltb (get_or x i 0) v h) at e))
-
-pub ahead_end : (v : ℕ) (x : List ℕ) (i m : ℕ) {t : ℕ} → i + ahead v (slice i m x) ≡ t → i ≡ m → i ≡ t
+-- they are those that the library's word leads with
+pub ahead_of_list : (v : ℕ) (l : List ℕ) → length (take_while (λ y. ltb y v) l) ≡ ahead v l
 unfolding ahead
-ahead_end v x i m e q = omega (arith, rw (q, slice_empty m x) at e)
+ahead_of_list v l = length-prefix_len (λ y. ltb y v) l ∙ go l
+  where
+    go : (l : List ℕ) → prefix_len (λ y. ltb y v) l ≡ ahead v l
+    go [] = refl
+    go (y ∷ l) = rw (one-add, go l)
 
 -- a number that stands there already is not put in again
 pub into_there : (v : ℕ) (l : List ℕ) → ahead v l < length l → get_or l (ahead v l) 0 ≡ v → into v l ≡ l
@@ -80,9 +80,40 @@ module _ (v n m i : ℕ) (x : List ℕ) (first : m ≡ min n (length x)) (place 
       = rw (length-append, length-take-le i x (omega arith), length-slice i m x (omega arith)) (omega arith) in
       record { at = rw new q; count = rw new (sym long) }
 
--- what is left of the first m goes one place up, c in front of it
-pub shift_turn : (x : List ℕ) (k m c : ℕ) → k < m → m ≤ length x →
-    take (k + 1) (set x k c) ++ get_or x k 0 ∷ slice (k + 1) m (set x k c) ≡ take k x ++ c ∷ slice k m x
-shift_turn x k m c lt le =
-    rw (slice-cons k m x 0 lt le, add-one, take-suc-set x k c (omega arith), take-set-lt m x k c lt, drop-set-lt (suc k) (take m x) k c (omega arith))
-    (append_assoc (take k x) (c ∷ []) (get_or x k 0 ∷ slice (suc k) m x))
+-- the first m from place i on go one place up, and v in front of them: the places that are written, up to `end`
+module _ (x : List ℕ) (i m v end : ℕ) (first : end ≡ min (length x) (m + 1)) (le : i ≤ m) (within : m ≤ length x) where
+  written : i < end → take end (set (copy_within x i (end - 1) (i + 1)) i v) ≡ take i x ++ v ∷ take (end - 1 - i) (drop i x)
+  written lt =
+      let k = end - 1 - i in
+      let e : i + 1 + k ≡ end = omega arith in
+      let y = copy_within x i (end - 1) (i + 1) in
+      let copied : take end y ≡ take (i + 1) x ++ take k (drop i x) =
+      ap (λ n. take n y) (sym e) ∙ take-paste x (i + 1) (drop i x) k (omega arith) (omega (arith, length-drop i x)) in
+      let apart : take (i + 1) x ++ take k (drop i x) ≡ take i x ++ get_or x i 0 ∷ take k (drop i x) =
+      rw (add-one, take-suc x i 0 (omega arith)) (append_assoc (take i x) (get_or x i 0 ∷ []) (take k (drop i x))) in
+      take-set-lt end y i v lt
+      ∙ (ap (λ l. set l i v) (copied ∙ apart) ∙ set_at (take i x) (get_or x i 0) (take k (drop i x)) v i (length-take-le i x (omega arith)))
+
+  moved : take i x ++ v ∷ slice i m x ≡ (take i x ++ v ∷ take (end - 1 - i) (drop i x)) ++ take (m - i - (end - 1 - i)) (drop (end - 1 - i) (drop i x))
+  moved =
+      let k = end - 1 - i in
+      let e : i + (m - i) ≡ m = omega arith in
+      let f : k + (m - i - k) ≡ m - i = omega arith in
+      let part = take-add k (m - i - k) (drop i x) in
+      rw (rw e at (drop-take i (m - i) x), rw f at part) (sym (append_assoc (take i x) (v ∷ take k (drop i x)) (take (m - i - k) (drop k (drop i x)))))
+
+  pub shifted : {y : List ℕ} → i < end → y ≡ pad (length x) 0 (take end (set (copy_within x i (end - 1) (i + 1)) i v))
+      → y ≡ pad (length x) 0 (take i x ++ v ∷ slice i m x)
+  shifted lt q =
+      let k = end - 1 - i in
+      let l = take i x ++ v ∷ take k (drop i x) in
+      let rest = take (m - i - k) (drop k (drop i x)) in
+      let long : length l ≡ end = rw length-append (omega (arith, length-take-le i x, length-take-le k (drop i x), length-drop i x)) in
+      q ∙ rw (written lt, moved) (by (leb (length x) m)
+      (λ b. sym (pad_over (length x) 0 l rest (omega (arith, long, leb-true (length x) m b))))
+      (λ b. let none : m - i - k ≡ 0 = omega (arith, leb-false (length x) m b) in rw (none, append-nil)))
+
+  pub shifted_out : end ≤ i → x ≡ pad (length x) 0 (take i x ++ v ∷ slice i m x)
+  shifted_out h =
+      rw (take_all i x (omega arith))
+      (sym (pad_over (length x) 0 x (v ∷ slice i m x) (omega arith) ∙ pad_whole 0 (length x) x refl))

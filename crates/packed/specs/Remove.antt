@@ -1,6 +1,6 @@
 -- A number taken out of the first of an array, and those before the first zero: what code does there is what `without` and `before_zero` do with the list.
-use Rattle.std.specs.Prelude.{◌≡◌, refl, List, [], ◌∷◌, ◌++◌, ℕ, suc, ◌+◌, ◌≤◌, ◌<◌, length, get_or, set, take, drop, eqb}
-use Rattle.std.proofs.Common.{sym, ap, ◌∙◌, append_assoc, append-nil, add-one, arith, drop_of_length-le, take-suc-set, drop-set-lt, drop-cons, eq-eqb, ne_eqb}
+use Rattle.std.specs.Prelude.{◌≡◌, refl, List, [], ◌∷◌, ◌++◌, ℕ, suc, ◌+◌, ◌≤◌, ◌<◌, length, get_or, set, take, eqb}
+use Rattle.std.proofs.Common.{sym, ap, ◌∙◌, append_assoc, append-nil, add-one, arith, take-suc-set, drop-set-lt, eq-eqb, ne_eqb}
 use Rattle.std.proofs.Math.Seq.{take-set-lt, slice, slice_empty, slice-cons}
 use Rattle.rules.specs.Lists.{without, before_zero}
 use Rattle.basic_laws.specs.Cases.{by}
@@ -28,18 +28,7 @@ module _ (v : ℕ) (x : List ℕ) (k i m : ℕ) (kept : k ≤ i) (lt : i < m) (l
 pub removed : (v : ℕ) (x : List ℕ) (k i m : ℕ) {l : List ℕ} → i ≡ m → take k x ++ without v (slice i m x) ≡ l → take k x ≡ l
 removed v x k i m q e = sym (append-nil (take k x)) ∙ rw (q, slice_empty m x) at e
 
--- those before the first zero, counted place by place
-module _ (x : List ℕ) (i : ℕ) {t : ℕ} (lt : i < length x) (e : i + length (before_zero (drop i x)) ≡ t) where
-  pub live_stop : get_or x i 0 ≡ 0 → i ≡ t
-  live_stop z = omega (arith, rw (drop-cons x i 0 lt, z) at e)
-
-  pub live_more : (get_or x i 0 ≡ 0 → ⊥) → i + 1 + length (before_zero (drop (i + 1) x)) ≡ t
-  live_more n = rw add-one (omega (arith, rw (drop-cons x i 0 lt, ne_eqb (get_or x i 0) 0 n) at e))
-
-pub live_end : (x : List ℕ) (i : ℕ) {t : ℕ} → i + length (before_zero (drop i x)) ≡ t → length x ≤ i → i ≡ t
-live_end x i e h = omega (arith, rw (drop_of_length-le x h) at e)
-
--- and are the first so many
+-- those before the first zero are the first so many
 pub live_first : (x : List ℕ) → take (length (before_zero x)) x ≡ before_zero x
 live_first [] = refl
 live_first (y ∷ x) = by (eqb y 0) (λ t. rw t) (λ t. rw t (ap (λ (r : List ℕ). y ∷ r) (live_first x)))

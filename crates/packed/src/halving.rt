@@ -3,10 +3,8 @@
 ghost use Rattle.std.specs.Prelude.{◌≡◌, take};
 ghost use Rattle.packed.specs.Halving.{place_found};
 
-use fields::lent::clipped;
-
 // Where a search ended, and how many looks at the list it took.
-#[derive(Drop)]
+#[derive(Clone, Copy)]
 pub struct Place {
     pub at: usize,
     pub looks: usize,
@@ -16,8 +14,9 @@ pub struct Place {
 pub fn find_place(x: &[u64], n: usize, v: u64) -> Place
     ensures { result ≡ place_found v (take n x.now) }
 {
+    // not `partition_point`: it doesn't count its looks, and `nine_looks` bounds them by 9 (document 02's wish 3)
     let mut from: usize = 0;
-    let mut size = clipped(n, x.len());
+    let mut size = n.min(x.len());
     let mut looks: usize = 0;
     while 0 < size {
         let half = size / 2;

@@ -8,18 +8,14 @@ ghost use Rattle.rules.specs.Lists.{into, without, pad, before_zero};
 ghost use Rattle.packed.specs.Packed.{Packed};
 ghost use Rattle.packed.specs.Insert.{ahead};
 
-use fields::lent::clipped;
-
 pub mod halving;
 
 // Zeroes every place from `from` on.
 fn clear(x: &mut [u64], from: usize)
     ensures { x.new ≡ pad (length x.old) 0 (take from x.old) }
 {
-    let mut i = from;
-    while i < x.len() {
-        x[i] = 0;
-        i += 1;
+    if from < x.len() {
+        x[from..].fill(0);
     }
 }
 
@@ -28,25 +24,7 @@ fn seek(x: &[u64], m: usize, v: u64) -> usize
     requires { m ≤ length x.now }
     ensures { result ≡ ahead v (take m x.now) }
 {
-    let mut i: usize = 0;
-    while i < m {
-        if v <= x[i] {
-            return i;
-        }
-        i += 1;
-    }
-    i
-}
-
-// The first m numbers and v behind them, if there is room.
-fn append(x: &mut [u64], m: usize, v: u64)
-    requires { m ≤ length x.old }
-    ensures { x.new ≡ pad (length x.old) 0 (take m x.old ++ v ∷ []) }
-{
-    if m < x.len() {
-        x[m] = v;
-        clear(x, m + 1);
-    }
+    x[..m].iter().take_while(|y| **y < v).count()
 }
 
 // The first m numbers with v in front of the one at place i; without room the last one goes.
@@ -54,28 +32,23 @@ fn shift(x: &mut [u64], i: usize, m: usize, v: u64)
     requires { (i ≤ m) × (m ≤ length x.old) }
     ensures { x.new ≡ pad (length x.old) 0 (take i x.old ++ v ∷ slice i m x.old) }
 {
-    let mut carried = v;
-    let mut k = i;
-    while k < m {
-        let old = x[k];
-        x[k] = carried;
-        carried = old;
-        k += 1;
+    let end = x.len().min(m + 1);
+    if i < end {
+        x.copy_within(i..end - 1, i + 1);
+        x[i] = v;
+        clear(x, end);
     }
-    append(x, m, carried);
 }
 
 // The first n numbers with v in its place, once.
 pub fn insert(x: &mut [u64], n: usize, v: u64) -> usize
     ensures { Packed (into v (take n x.old)) (length x.old) x.new result }
 {
-    let m = clipped(n, x.len());
+    let m = n.min(x.len());
     let i = seek(x, m, v);
-    if i < m {
-        if x[i] == v {
-            clear(x, m);
-            return m;
-        }
+    if i < m && x[i] == v {
+        clear(x, m);
+        return m;
     }
     shift(x, i, m, v);
     m + 1
@@ -87,10 +60,8 @@ fn strip(x: &mut [u64], m: usize, v: u64) -> usize
     ensures { Packed (without v (take m x.old)) (length x.old) x.new result }
 {
     let mut kept: usize = 0;
-    let mut i: usize = 0;
-    while i < m {
+    for i in 0..m {
         let y = x[i];
-        i += 1;
         if y != v {
             x[kept] = y;
             kept += 1;
@@ -104,7 +75,7 @@ fn strip(x: &mut [u64], m: usize, v: u64) -> usize
 pub fn remove(x: &mut [u64], n: usize, v: u64) -> usize
     ensures { Packed (without v (take n x.old)) (length x.old) x.new result }
 {
-    let first = clipped(n, x.len());
+    let first = n.min(x.len());
     strip(x, first, v)
 }
 
@@ -112,14 +83,7 @@ pub fn remove(x: &mut [u64], n: usize, v: u64) -> usize
 fn live(x: &[u64]) -> usize
     ensures { result ≡ length (before_zero x.now) }
 {
-    let mut i: usize = 0;
-    while i < x.len() {
-        if x[i] == 0 {
-            return i;
-        }
-        i += 1;
-    }
-    i
+    x.iter().take_while(|y| **y != 0).count()
 }
 
 // The numbers before the first zero, and v behind them.
@@ -127,7 +91,7 @@ pub fn enter(x: &mut [u64], v: u64)
     ensures { x.new ≡ pad (length x.old) 0 (before_zero x.old ++ v ∷ []) }
 {
     let m = live(x);
-    append(x, m, v);
+    shift(x, m, m, v);
 }
 
 // The numbers before the first zero, without v.

@@ -1,16 +1,14 @@
--- `live` meets its contract: those passed and those before the first zero from there on are as many as at first.
-use native.Mathlib.Omega.{arith}
-use Rattle.packed.specs.Remove.{live_stop, live_more, live_end}
+-- `live` meets its contract: those before the first zero are those that the chain counts.
+use Rattle.basic_laws.specs.Chains.{before_zero_of_list}
+use Rattle.std.proofs.Common.{ap, ◌∙◌, length, not, ◌==◌, rules, tests}
+use Rattle.std.proofs.lemmas.Iterator.{YieldsList-from_slice}
+use Rattle.std.proofs.lemmas.Iterator.Search.{YieldsList-from_take_while}
+use Rattle.std.proofs.lemmas.Iterator.Consumers.{count_from_yields_List}
 use Rattle.packed.proofs.live.Goals as goal
 
-pub loop-i-init : goal.loop-i-init
-loop-i-init c = (omega arith, omega arith)
-
-pub returns-then-x-i-eq0 : goal.returns-then-x-i-eq0
-returns-then-x-i-eq0 c = live_stop _ _ (omega arith) c.loop-i.invariant.1 c.if-x-i-eq0.true
-
-pub loop-i-preserved : goal.loop-i-preserved
-loop-i-preserved c = (omega arith, live_more _ _ (omega arith) c.loop-i.invariant.1 c.if-x-i-eq0.false)
-
 pub returns : goal.returns
-returns c = live_end _ _ c.loop-i.invariant.1 (omega arith)
+returns c =
+    count_from_yields_List c.take_while.result _ c.count.ensures.ran
+    (YieldsList-from_take_while _ (λ y. not (y == 0)) (YieldsList-from_slice c.args.x.now cc) c.take_while.ensures.closure c.take_while.ensures.done
+    (λ x b q k. search (rules, tests)))
+    ∙ ap length (before_zero_of_list c.args.x.now)

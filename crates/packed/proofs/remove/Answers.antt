@@ -5,5 +5,5 @@ use Rattle.packed.proofs.remove.Goals as goal
 pub returns : goal.returns
 returns c =
     let s = c.args in
-    rw (← (take_within s.n c.clipped-first.result s.x.now c.clipped-first.ensures))
+    rw (← (take_within s.n c.min-first.result s.x.now c.min-first.ensures))
     c.strip.ensures

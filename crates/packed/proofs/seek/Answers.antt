@@ -1,18 +1,14 @@
--- `seek` meets its contract: those passed and those ahead from there on are as many as those ahead at first.
-use native.Mathlib.Omega.{arith}
-use Rattle.packed.specs.Insert.{ahead_stop, ahead_more, ahead_end}
+-- `seek` meets its contract: those ahead are those that the chain counts.
+use Rattle.packed.specs.Insert.{ahead_of_list}
+use Rattle.std.proofs.Common.{take, ltb, ◌∙◌, rules, tests}
+use Rattle.std.proofs.lemmas.Iterator.{YieldsList-from_slice}
+use Rattle.std.proofs.lemmas.Iterator.Search.{YieldsList-from_take_while}
+use Rattle.std.proofs.lemmas.Iterator.Consumers.{count_from_yields_List}
 use Rattle.packed.proofs.seek.Goals as goal
 
-pub loop-i-init : goal.loop-i-init
-loop-i-init c = (omega arith, omega arith)
-
-pub returns-then-v-x : goal.returns-then-v-x
-returns-then-v-x c =
-    ahead_stop _ c.args.x.now c.loop-i.i c.args.m (omega arith) (omega arith) c.loop-i.invariant.1 c.if-v-x.true
-
-pub loop-i-preserved : goal.loop-i-preserved
-loop-i-preserved c =
-    (omega arith, ahead_more _ c.args.x.now c.loop-i.i c.args.m (omega arith) (omega arith) c.loop-i.invariant.1 c.if-v-x.false)
-
 pub returns : goal.returns
-returns c = ahead_end _ c.args.x.now _ c.args.m c.loop-i.invariant.1 (omega arith)
+returns c =
+    count_from_yields_List c.take_while.result _ c.count.ensures.ran
+    (YieldsList-from_take_while _ (λ y. ltb y c.args.v) (YieldsList-from_slice (take c.args.m c.args.x.now) cc) c.take_while.ensures.closure
+    c.take_while.ensures.done (λ x b q k. search (rules, tests)))
+    ∙ ahead_of_list c.args.v (take c.args.m c.args.x.now)

@@ -1,27 +1,14 @@
--- `shift` meets its contract: the numbers passed, the one carried and those to come stay the same list.
-use mathlib.Core.Path.{◌≡◌, ap, ◌∙◌}
+-- `shift` meets its contract: the numbers from place i on go up, as far as there are places.
+use mathlib.Core.Path.{◌∙◌}
+use lib.ListN.{length-set}
 use native.Mathlib.Omega.{arith}
-use lib.ListN.{length, length-set}
-use lib.Seq.{slice_empty}
-use Rattle.rules.specs.Lists.{pad}
-use Rattle.packed.specs.Insert.{shift_turn}
+use Rattle.packed.specs.Insert.{shifted, shifted_out}
 use Rattle.packed.proofs.shift.Goals as goal
 
-pub loop-k-preserved : goal.loop-k-preserved
-loop-k-preserved c = (
-  omega arith,
-  simp length-set c.loop-k.invariant.1,
-  shift_turn c.loop-k.x c.loop-k.k c.args.m c.loop-k.carried (omega arith) (omega arith) ∙ c.loop-k.invariant.2,
-)
+pub returns-then-i-end : goal.returns-then-i-end
+returns-then-i-end c =
+    let s = c.args in shifted s.x.now s.i s.m s.v _ c.min-end.ensures (omega arith) (omega arith) c.if-i-end.true
+    (c.clear.ensures ∙ rw (length-set, c.copy_within.ensures.len, c.copy_within.ensures.after))
 
-pub append-requires : goal.append-requires
-append-requires c = omega arith
-
-pub shape_of-x : goal.shape_of-x
-shape_of-x c = c.append.auto.x ∙ c.loop-k.invariant.1
-
-pub returns : goal.returns
-returns c =
-    let s = c.args in
-    let e : c.loop-k.k ≡ s.m = omega arith in
-    c.append.ensures ∙ rw c.loop-k.invariant.1 (ap (pad (length s.x.now) 0) (rw (e, slice_empty) at c.loop-k.invariant.2))
+pub returns-else-i-end : goal.returns-else-i-end
+returns-else-i-end c = let s = c.args in shifted_out s.x.now s.i s.m s.v _ c.min-end.ensures (omega arith) (omega arith) c.if-i-end.false

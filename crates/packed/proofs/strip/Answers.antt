@@ -1,37 +1,22 @@
 -- `strip` meets its contract: the numbers kept, and those to come without v, stay the same list.
 use mathlib.Core.Path.{◌∙◌}
 use native.Mathlib.Omega.{arith}
-use lib.ListN.{length-set}
 use Rattle.packed.specs.Packed.{packed_first}
 use Rattle.packed.specs.Remove.{keep_turn, skip_turn, removed}
+use Rattle.packed.proofs.strip.Goals.{then-y-v, else-y-v}
 use Rattle.packed.proofs.strip.Goals as goal
 
-pub loop-i-preserved-then-y-v : goal.loop-i-preserved-then-y-v
-loop-i-preserved-then-y-v c = (
-  omega arith,
-  omega arith,
-  simp length-set c.loop-i.invariant.2,
-  keep_turn c.args.v c.loop-i.x c.loop-i.kept c.loop-i.i c.args.m (omega arith) (omega arith)
-      (omega arith) c.if-y-v.true
-      ∙ c.loop-i.invariant.3,
-)
-
 pub loop-i-preserved : goal.loop-i-preserved
-loop-i-preserved c = (
-  omega arith,
-  omega arith,
-  c.loop-i.invariant.2,
-  skip_turn c.args.v c.loop-i.x c.loop-i.kept c.loop-i.i c.args.m (omega arith) (omega arith)
-      (omega arith) c.if-y-v.false
-      ∙ c.loop-i.invariant.3,
-)
-
-pub shape_of-x : goal.shape_of-x
-shape_of-x c = c.clear.auto.x ∙ c.loop-i.invariant.2
+loop-i-preserved c =
+    let s = c.loop-i in
+    elim c.if-y-v.branch [
+      | then-y-v w ↦ rw (w.kept-is, w.x-is)
+          (omega arith, keep_turn c.args.v s.x s.kept s.i c.args.m (omega arith) (omega arith) (omega arith) w.if-y-v.true ∙ s.invariant.1)
+      | else-y-v w ↦ rw (w.kept-is, w.x-is)
+          (omega arith, skip_turn c.args.v s.x s.kept s.i c.args.m (omega arith) (omega arith) (omega arith) w.if-y-v.false ∙ s.invariant.1)
+    ]
 
 pub returns : goal.returns
 returns c =
-    let s = c.args in
-    packed_first _ c.loop-i.x c.loop-i.kept _
-    (removed s.v c.loop-i.x c.loop-i.kept c.loop-i.i c.args.m (omega arith) c.loop-i.invariant.3) (omega arith)
-    c.loop-i.invariant.2 c.clear.ensures
+    let s = c.loop-i in
+    packed_first _ s.x s.kept _ (removed c.args.v s.x s.kept s.i c.args.m (omega arith) s.invariant.1) (omega arith) s.auto.x c.clear.ensures

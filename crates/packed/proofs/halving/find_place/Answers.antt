@@ -4,7 +4,7 @@ use Rattle.packed.specs.HalvingTurns.{turn_start, turn_end, turn_behind, turn_be
 use Rattle.packed.proofs.halving.find_place.Goals as goal
 
 pub loop-size-init : goal.loop-size-init
-loop-size-init c = (omega arith, omega arith, turn_start _ _ _ _ c.clipped-size.ensures)
+loop-size-init c = (omega arith, omega arith, turn_start _ _ _ _ c.min-size.ensures)
 
 pub loop-size-preserved-then-x-middle : goal.loop-size-preserved-then-x-middle
 loop-size-preserved-then-x-middle c =
