@@ -3,7 +3,7 @@
 use std::fmt;
 
 // The most that one search took, and all together.
-#[derive(Clone, Copy)]
+#[derive(Clone, Copy, Default)]
 pub struct Tally {
     pub most: usize,
     pub all: usize,
@@ -17,17 +17,10 @@ impl fmt::Display for Tally {
     }
 }
 
-pub fn none() -> Tally {
-    Tally { most: 0, all: 0 }
-}
-
-// One search more; what doesn't fit is left out.
-pub fn added(t: Tally, looks: usize) -> Tally {
-    let most = if t.most < looks { looks } else { t.most };
-    let all = if looks <= usize::MAX - t.all {
-        t.all + looks
-    } else {
-        t.all
-    };
-    Tally { most, all }
+impl Tally {
+    // One search more; what doesn't fit is left out.
+    pub fn add(&mut self, looks: usize) {
+        self.most = self.most.max(looks);
+        self.all = self.all.checked_add(looks).unwrap_or(self.all);
+    }
 }
