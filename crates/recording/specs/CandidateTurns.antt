@@ -1,19 +1,19 @@
 -- The candidates of a lookup, from the fields of the store that it reads, one posting and one own write at a time.
-use Rattle.std.specs.Prelude.{◌≡◌, refl, Bool, true, List, [], ◌∷◌, ◌++◌, map, ℕ, ◌*◌, ◌≤◌, min, length, take, set, ltb}
-use Rattle.std.proofs.Common.{sym, ap, ◌∙◌, add-zero, arith, eq-eqb, ne_eqb, lt-ltb}
+use Rattle.std.specs.Prelude.{◌≡◌, refl, Bool, true, List, [], ◌∷◌, ◌++◌, map, ℕ, ◌*◌, ◌-◌, ◌≤◌, min, length, take, drop, set, ltb}
+use Rattle.std.proofs.Common.{sym, ap, ◌∙◌, add-zero, arith, lt-ltb}
 use Rattle.std.proofs.Math.Seq.{set_out}
 use Rattle.records.specs.Limits.{rows, posting_limit}
 use Rattle.rules.specs.Lists.{all, rising, in_order}
 use Rattle.basic_laws.specs.Cases.{and_true, every_cons}
 use Rattle.rules.specs.Types.{Store, Tx, Write}
-use Rattle.rules.specs.Store.{key_of, row_of, postings_of}
+use Rattle.rules.specs.Store.{row_of, postings_of}
 use Rattle.rules.specs.Transaction.{writes_of}
 use Rattle.rules.specs.Chains.{walk}
 use Rattle.rules.specs.Fit.{fit, write_fit}
 use Rattle.rules.specs.Calls.{candidates}
 use Rattle.basic_laws.specs.AllOf.{all_append}
 use Rattle.fields.specs.Lent.{at_postings, array_same}
-use Rattle.fields.specs.First.{first_from}
+use Rattle.std.proofs.lemmas.Slice.{between_is}
 use Rattle.fields.specs.Marks.{mark_all, mark_append}
 use Rattle.packed.specs.Packed.{take_within}
 use Rattle.packed.specs.Halving.{place_found}
@@ -48,18 +48,10 @@ candidates_of S x k r = rw (walk_rising k 0 (take S.posting_count S.postings) r)
 -- the walk starts at the place of the key, found among the first n
 pub walk_starts : (postings : List ℕ) (count n k i : ℕ) → length postings ≡ posting_limit → n ≡ min count posting_limit
     → i ≡ (place_found (k * rows) (take n postings)).at
-    → rows_in_front k (first_from count (at_postings postings) i) ≡ posted_rows (at_postings postings) count k
-unfolding first_from key_walk
+    → rows_in_front k (take (n - i) (drop i postings)) ≡ posted_rows (at_postings postings) count k
+unfolding key_walk
 walk_starts postings count n k i long e f =
-    rw (f, take_within count n postings (omega arith), add-zero (k * rows), array_same posting_limit 0 postings long)
-
--- one posting more: marked if it is of the key, and else the end
-module _ (k c : ℕ) (l rest : List ℕ) (m : List Bool) (next : l ≡ c ∷ rest) where
-  pub posting_of : key_of c ≡ k → mark_all (rows_in_front k l) m ≡ mark_all (rows_in_front k rest) (set m (row_of c) true)
-  posting_of e = rw (next, eq-eqb (key_of c) k e)
-
-  pub posting_not : (key_of c ≡ k → ⊥) → mark_all (rows_in_front k l) m ≡ m
-  posting_not n = rw (next, ne_eqb (key_of c) k n)
+    rw (between_is postings i n, f, take_within count n postings (omega arith), add-zero (k * rows), array_same posting_limit 0 postings long)
 
 -- one own write more: marked if its row has a place
 module _ (w : Write) (l rest : List Write) (m : List Bool) (next : l ≡ w ∷ rest) where

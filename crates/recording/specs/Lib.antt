@@ -1,3 +1,4 @@
+pub mod Laid
 pub mod ReadList
 pub mod Record
 pub mod MarkedRows

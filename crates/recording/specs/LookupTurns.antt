@@ -1,11 +1,13 @@
 -- What a lookup records and finds, from the fields of the store that it reads, one candidate at a time.
-use Rattle.std.specs.Prelude.{◌≡◌, refl, Bool, List, [], ◌∷◌, ℕ}
+use Rattle.std.specs.Prelude.{◌≡◌, refl, Bool, List, [], ◌∷◌, ℕ, ◌≤◌, length}
+use Rattle.std.proofs.Common.{arith}
 use Rattle.rules.specs.Lists.{those}
 use Rattle.rules.specs.Types.{Store, Tx, ReadRecord}
 use Rattle.rules.specs.Store.{carries}
 use Rattle.rules.specs.Calls.{record_reads, read_ptr, matching, candidates}
 use Rattle.visibility.specs.Found.{read_ptr_of}
 use Rattle.recording.specs.ReadList.{record_read_of, record_read_law}
+use Rattle.recording.specs.Record.{record_longer}
 
 module _ (heads next xmin : List ℕ) (x : Tx) where
   unfoldable pub record_reads_of : List ℕ → List ReadRecord → List ReadRecord
@@ -26,6 +28,13 @@ matching_of heads next xmin key has x k rs = those (λ r. carries key has (read_
 pub matching_of_law : (S : Store) (x : Tx) (k : ℕ) → matching S x k ≡ matching_of S.heads S.next S.xmin S.key S.has x k (candidates S x k)
 unfolding matching matching_of read_ptr read_ptr_of
 matching_of_law S x k = refl
+
+-- no read is taken out
+pub records_longer : (heads next xmin : List ℕ) (x : Tx) (rs : List ℕ) (l : List ReadRecord) → length l ≤ length (record_reads_of heads next xmin x rs l)
+unfolding record_reads_of
+records_longer heads next xmin x [] l = omega arith
+records_longer heads next xmin x (r ∷ rs) l =
+    let m = record_read_of heads next xmin x r l in omega (arith, record_longer heads next xmin x r l, records_longer heads next xmin x rs m)
 
 -- one row more recorded, or none left
 module _ (heads next xmin : List ℕ) (x : Tx) (rs : List ℕ) (l : List ReadRecord) where

@@ -7,57 +7,44 @@ ghost use Rattle.fields.specs.Marks.{mark_all};
 ghost use Rattle.recording.specs.MarkedRows.{no_rows};
 ghost use Rattle.recording.specs.CandidateTurns.{posted_rows, own_rows, candidate_marks};
 
-use fields::lent::clipped;
+use super::laid::first_of;
 use packed::halving::find_place;
 use records::{RowId, Store, Tx};
 
 // The rows of the postings of key k: from its first one on, which is found by halving, to the first of another key.
-fn posted_rows(postings: &[u64; Store::POSTINGS], count: usize, k: u32) -> [bool; RowId::ROWS]
-    ensures { result ≡ mark_all (posted_rows (at_postings postings.now) count k) no_rows }
+fn posted_rows(s: &Store, k: u32) -> [bool; RowId::ROWS]
+    ensures { result ≡ mark_all (posted_rows (at_postings s.now.postings) s.now.posting_count k) no_rows }
 {
     let mut m = [false; RowId::ROWS];
-    let n = clipped(count, Store::POSTINGS);
+    let n = s.posting_count.min(Store::POSTINGS);
+    let rows = RowId::ROWS as u64;
     let key = k as u64;
-    let first = find_place(postings, n, key * (RowId::ROWS as u64));
-    let mut i = first.at;
-    while i < n {
-        let c = postings[i];
-        i += 1;
-        if c / (RowId::ROWS as u64) != key {
+    let first = find_place(&s.postings, n, key * rows).at;
+    for c in &s.postings[first..n] {
+        if *c / rows != key {
             return m;
         }
-        m[(c % (RowId::ROWS as u64)) as usize] = true;
+        m[(*c % rows) as usize] = true;
     }
     m
 }
 
-// The rows of own writes, besides those marked in m; a row too high is not marked.
-fn own_rows(x: Tx, m: [bool; RowId::ROWS]) -> [bool; RowId::ROWS]
-    ensures { result ≡ mark_all (own_rows (writes_of x)) m }
+// Marks the rows of own writes besides; a row too high is not marked.
+fn own_rows(x: &Tx, m: &mut [bool; RowId::ROWS])
+    ensures { m.new ≡ mark_all (own_rows (writes_of x.now)) m.old }
 {
-    let mut q = m;
-    let n = clipped(x.write_count, Tx::WRITES);
-    let mut i: usize = 0;
-    while i < n {
-        let w = x.writes[i];
-        let r = w.row.0;
-        i += 1;
-        if r < RowId::ROWS {
-            q[r] = true;
+    for w in first_of(&x.writes, x.write_count) {
+        if w.row.0 < RowId::ROWS {
+            m[w.row.0] = true;
         }
     }
-    q
 }
 
 // Marks every row that a posting of key k or an own write names.
-pub fn candidates(
-    postings: &[u64; Store::POSTINGS],
-    count: usize,
-    x: Tx,
-    k: u32,
-) -> [bool; RowId::ROWS]
-    ensures { result ≡ candidate_marks (at_postings postings.now) count x k }
+pub fn candidates(s: &Store, x: &Tx, k: u32) -> [bool; RowId::ROWS]
+    ensures { result ≡ candidate_marks (at_postings s.now.postings) s.now.posting_count x.now k }
 {
-    let m = posted_rows(postings, count, k);
-    own_rows(x, m)
+    let mut m = posted_rows(s, k);
+    own_rows(x, &mut m);
+    m
 }

@@ -6,61 +6,56 @@ ghost use Rattle.rules.specs.Transaction.{writes_of, with_writes};
 ghost use Rattle.recording.specs.ReadList.{reads_from};
 ghost use Rattle.recording.specs.StampList.{index_reads_from};
 
+use super::laid::Laid;
 use super::reads::ReadList;
 use super::stamps::IndexReadList;
-use fields::lent::clipped;
 use records::{Tx, Txid, Write};
 
-// Its reads those of a list, as many as it has places for.
-pub fn with_reads(x: Tx, l: ReadList) -> Tx
-    ensures { result ≡ reads_from l x }
+// Its reads those of a list.
+pub fn with_reads(x: &Tx, l: ReadList) -> Tx
+    ensures { result ≡ reads_from l x.now }
 {
-    let mut y = x;
-    let at = l.at;
-    y.reads = at;
-    y.read_count = l.count;
-    y
+    let reads = l.at;
+    Tx {
+        reads,
+        read_count: l.count,
+        ..*x
+    }
 }
 
 // Its index reads those of a list, its index_conflict as given.
-pub fn with_index_reads(x: Tx, l: IndexReadList, conflict: bool) -> Tx
-    ensures { result ≡ index_reads_from l conflict x }
+pub fn with_index_reads(x: &Tx, l: IndexReadList, conflict: bool) -> Tx
+    ensures { result ≡ index_reads_from l conflict x.now }
 {
-    let mut y = x;
-    let at = l.at;
-    y.index_reads = at;
-    y.index_read_count = l.count;
-    y.index_conflict = conflict;
-    y
+    let index_reads = l.at;
+    Tx {
+        index_reads,
+        index_read_count: l.count,
+        index_conflict: conflict,
+        ..*x
+    }
 }
 
 // One write more; where there is no place for it, only the count tells.
-pub fn with_write(x: Tx, w: Write) -> Tx
-    ensures { result ≡ with_writes (writes_of x ++ w ∷ []) x }
+pub fn with_write(x: &Tx, w: Write) -> Tx
+    ensures { result ≡ with_writes (writes_of x.now ++ w ∷ []) x.now }
 {
-    let mut at = [Write::NONE; Tx::WRITES];
-    let n = clipped(x.write_count, Tx::WRITES);
-    let mut i: usize = 0;
-    while i < n {
-        at[i] = x.writes[i];
-        i += 1;
+    let mut l = Laid::first(&x.writes, x.write_count, Write::NONE);
+    l.push(w);
+    let writes = l.at;
+    Tx {
+        writes,
+        write_count: l.count,
+        ..*x
     }
-    let mut y = x;
-    y.write_count = n + 1;
-    if n == Tx::WRITES {
-        y.writes = at;
-        return y;
-    }
-    at[n] = w;
-    y.writes = at;
-    y
 }
 
 // Zero but for the txid.
 pub fn only_txid(t: Txid) -> Tx
     ensures { result ≡ only_txid t.0 }
 {
-    let mut x = Tx::zero();
-    x.txid.0 = t.0;
-    x
+    Tx {
+        txid: t,
+        ..Tx::zero()
+    }
 }

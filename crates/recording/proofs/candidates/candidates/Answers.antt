@@ -6,4 +6,4 @@ use Rattle.recording.proofs.candidates.candidates.Goals as goal
 pub returns : goal.returns
 returns c =
     let a = c.args in
-    candidate_marks_law (at_postings a.postings.now) a.count a.x a.k _ _ c.posted_rows-m.ensures c.own_rows.ensures
+    candidate_marks_law (at_postings a.s.now.postings) a.s.now.posting_count a.x.now a.k _ _ c.posted_rows-m.ensures c.own_rows.ensures

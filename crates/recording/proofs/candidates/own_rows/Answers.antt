@@ -1,34 +1,25 @@
--- `own_rows` meets its contract: the own writes from place i on, marked besides those marked so far, make the marks of all.
-use mathlib.Core.Path.{refl, sym, ◌∙◌}
+-- `own_rows` meets its contract: the own writes from an index on, marked besides those marked so far, make the marks of all.
+use mathlib.Core.Path.{sym, ap, ◌∙◌}
 use native.Mathlib.Omega.{arith}
-use borrow.Author.Rules.{rules}
+use Rattle.std.proofs.Common.{drop_of_length-le}
+use Rattle.std.proofs.lemmas.List.{drop_more}
 use Rattle.records.specs.Zero.{no_write}
-use Rattle.fields.specs.First.{first_from, first_next, first_end}
-use Rattle.recording.specs.CandidateTurns.{own_row, own_high}
-use Rattle.fields.proofs.Lengths.{writes_long}
+use Rattle.fields.specs.Marks.{mark_all}
+use Rattle.recording.specs.CandidateTurns.{own_rows, own_row, own_high}
+use Rattle.recording.proofs.candidates.own_rows.Goals.{then-w-lt-ROWS, else-w-lt-ROWS}
 use Rattle.recording.proofs.candidates.own_rows.Goals as goal
 
-pub loop-i-init : goal.loop-i-init
-unfolding first_from
-loop-i-init c = (omega arith, c.clipped-n.ensures, search rules, refl)
+pub loop-w-init : goal.loop-w-init
+loop-w-init c = (c.told-m, ap (λ l. mark_all (own_rows l) c.args.m.now) c.first_of-w-items.ensures)
 
-pub loop-i-preserved-then-r-lt-ROWS : goal.loop-i-preserved-then-r-lt-ROWS
-loop-i-preserved-then-r-lt-ROWS c =
-    let long = writes_long c.args.x c.well_formed.0 in
-    (omega arith, omega arith, search rules, sym (own_row _ _ _ _ (first_next _ _ _ no_write (omega arith))) ∙ c.loop-i.invariant.3)
-
-pub loop-i-preserved : goal.loop-i-preserved
-loop-i-preserved c =
-    let long = writes_long c.args.x c.well_formed.0 in (
-      omega arith,
-      omega arith,
-      omega arith,
-      sym (own_high _ _ _ _ (first_next _ _ _ no_write (omega arith)) (omega arith)) ∙ c.loop-i.invariant.3,
-    )
+pub loop-w-preserved : goal.loop-w-preserved
+loop-w-preserved c =
+    let s = c.loop-w in
+    let next = drop_more c.first_of-w-items.result.now s.w-index no_write c.loop-w-test.true in
+    elim c.if-w-lt-ROWS.branch [
+      | then-w-lt-ROWS w ↦ (c.if-w-lt-ROWS.array_long, rw w.m-is (sym (own_row _ _ _ _ next) ∙ s.invariant.1))
+      | else-w-lt-ROWS w ↦ (c.if-w-lt-ROWS.array_long, rw w.m-is (sym (own_high _ _ _ _ next (omega (arith, w.if-w-lt-ROWS.false))) ∙ s.invariant.1))
+    ]
 
 pub returns : goal.returns
-returns c =
-    let x = c.args.x in
-    let long = writes_long x c.well_formed.0 in
-    let none = first_end x.write_count x.writes c.loop-i.i (omega arith) in
-    rw none at c.loop-i.invariant.3
+returns c = rw (drop_of_length-le c.first_of-w-items.result.now c.loop-w-test.false) at c.loop-w.invariant.1

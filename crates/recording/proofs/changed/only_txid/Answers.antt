@@ -4,4 +4,4 @@ use Rattle.recording.proofs.changed.only_txid.Goals as goal
 
 pub returns : goal.returns
 unfolding zero_tx only_txid
-returns c = rw c.zero-x.ensures
+returns c = rw c.zero.ensures

@@ -1,31 +1,50 @@
 -- `record_marked` meets its contract: l holds the reads recorded so far, and those of the rows from i on make them all.
 use mathlib.Core.Path.{sym, ap, ◌∙◌}
+use Rattle.std.proofs.Common.{◌+◌}
 use native.Mathlib.Omega.{arith}
+use Rattle.records.specs.Limits.{read_limit}
+use Rattle.records.specs.Zero.{no_read}
 use Rattle.rules.specs.Transaction.{reads_of}
 use Rattle.fields.specs.Lent.{at_rows, at_places}
-use Rattle.recording.specs.MarkedRows.{marked_whole, marked_end, marked_yes, marked_no}
-use Rattle.recording.specs.ReadList.{laid, record_read_of}
-use Rattle.recording.specs.LookupTurns.{records_none, records_next}
+use Rattle.recording.specs.MarkedRows.{marked_at, marked_whole, marked_end, marked_yes, marked_no}
+use Rattle.recording.specs.Laid.{no_within, within_no}
+use Rattle.recording.specs.ReadList.{reads_within, record_read_of}
+use Rattle.recording.specs.LookupTurns.{records_none, records_next, records_longer}
+use Rattle.recording.proofs.lookup.record_marked.Goals.{then-marked+in_ok-l, else-marked}
 use Rattle.recording.proofs.lookup.record_marked.Goals as goal
 
 pub loop-i-init : goal.loop-i-init
-loop-i-init c = (omega arith, reads_of c.args.x, c.reads_of-l.ensures, rw (marked_whole c.args.marks.now))
+loop-i-init c = (reads_of c.args.x.now, c.reads_of-l.ensures, rw (marked_whole c.args.marks.now))
 
-pub loop-i-preserved-then-marked : goal.loop-i-preserved-then-marked
-loop-i-preserved-then-marked c =
+pub returns-in_err-l : goal.returns-in_err-l
+returns-in_err-l c =
     let inv = c.loop-i.invariant in
-    let yes = marked_yes c.args.marks.now c.loop-i.i c.loop-i-test.true c.if-marked.true in
     let a = c.args in
-    let m = record_read_of (at_rows a.heads.now) (at_places a.next.now) (at_places a.xmin.now) a.x c.loop-i.i inv.1 in
-    (omega arith, m, c.record_read-l.ensures inv.1 inv.2, sym (records_next _ _ _ _ _ _ _ _ yes) ∙ inv.3)
+    let heads = at_rows a.s.now.heads in
+    let next = at_places a.s.now.next in
+    let xmin = at_places a.s.now.xmin in
+    let m = record_read_of heads next xmin a.x.now c.loop-i.i inv.0 in
+    let yes = marked_yes a.marks.now c.loop-i.i c.loop-i-test.true c.if-marked.true in
+    let over = no_within read_limit no_read m (sym c.in_err-l.was ∙ c.record_read.ensures inv.0 inv.1) in
+    let whole = sym (records_next _ _ _ _ _ _ _ _ yes) ∙ inv.2 in
+    let longer = records_longer heads next xmin a.x.now (marked_at a.marks.now (c.loop-i.i + 1)) m in
+    c.from_residual.ensures ∙ within_no read_limit no_read _ (rw (← whole) (omega arith))
 
 pub loop-i-preserved : goal.loop-i-preserved
 loop-i-preserved c =
     let inv = c.loop-i.invariant in
-    let no = marked_no c.args.marks.now c.loop-i.i c.loop-i-test.true c.if-marked.false in
-    (omega arith, inv.1, inv.2, rw no at inv.3)
+    elim c.if-marked.branch [
+      | then-marked+in_ok-l w ↦
+          let yes = marked_yes c.args.marks.now c.loop-i.i c.loop-i-test.true w.if-marked.true in
+          let a = c.args in
+          let m = record_read_of (at_rows a.s.now.heads) (at_places a.s.now.next) (at_places a.s.now.xmin) a.x.now c.loop-i.i inv.0 in
+          (m, rw w.l-is (sym (w.in_ok-l.was) ∙ w.record_read.ensures inv.0 inv.1), sym (records_next _ _ _ _ _ _ _ _ yes) ∙ inv.2)
+      | else-marked w ↦
+          let no = marked_no c.args.marks.now c.loop-i.i c.loop-i-test.true w.if-marked.false in
+          (inv.0, rw w.l-is inv.1, rw no at inv.2)
+    ]
 
 pub returns : goal.returns
 returns c =
     let inv = c.loop-i.invariant in
-    inv.2 ∙ ap laid (sym (records_none _ _ _ _ _ _ (marked_end _ _ c.loop-i-test.false)) ∙ inv.3)
+    inv.1 ∙ ap reads_within (sym (records_none _ _ _ _ _ _ (marked_end _ _ (omega arith))) ∙ inv.2)

@@ -1,23 +1,7 @@
--- `reads_of` meets its contract: the first i reads are laid out.
-use mathlib.Core.Path.{◌≡◌, refl}
-use native.Mathlib.Omega.{arith}
+-- `reads_of` meets its contract: the first places hold them all.
 use Rattle.records.specs.Limits.{read_limit}
-use Rattle.records.specs.Zero.{no_read}
-use Rattle.fields.specs.Pad.{pad_more}
-use Rattle.recording.specs.ReadList.{laid_first}
-use Rattle.fields.proofs.Lengths.{reads_long}
+use Rattle.recording.specs.Laid.{counted_within}
 use Rattle.recording.proofs.reads.reads_of.Goals as goal
 
-pub loop-i-init : goal.loop-i-init
-loop-i-init c = (omega arith, c.clipped-count.ensures, refl)
-
-pub loop-i-preserved : goal.loop-i-preserved
-loop-i-preserved c =
-    let long = reads_long c.args.x c.well_formed.0 in
-    (omega arith, omega arith, pad_more read_limit no_read _ _ _ (omega arith) (omega arith) c.loop-i.invariant.2)
-
 pub returns : goal.returns
-returns c =
-    let x = c.args.x in
-    let e : c.loop-i.i ≡ c.clipped-count.result = omega arith in
-    laid_first _ _ _ _ (reads_long x c.well_formed.0) c.clipped-count.ensures (rw e at c.loop-i.invariant.2)
+returns c = counted_within read_limit _ _ _ c.first.ensures.first c.first.ensures.few

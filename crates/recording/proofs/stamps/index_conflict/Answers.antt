@@ -1,18 +1,16 @@
 -- `index_conflict` meets its contract, by its tests in order.
-use mathlib.Core.Path.{ap}
-use mathlib.Core.Bool.{not}
-use borrow.Author.Tests.{eq-eqb, ne_eqb}
+use Rattle.std.proofs.Common.{rules}
 use Rattle.recording.specs.StampList.{index_conflict}
 use Rattle.recording.proofs.stamps.index_conflict.Goals as goal
 
 pub returns-then-x : goal.returns-then-x
 unfolding index_conflict
-returns-then-x c = simp c.if-x.true
+returns-then-x c = search rules
 
-pub returns-then-stamp-eq0 : goal.returns-then-stamp-eq0
+pub returns-then-ne : goal.returns-then-ne
 unfolding index_conflict
-returns-then-stamp-eq0 c = simp (c.if-x.false, eq-eqb _ _ c.if-stamp-eq0.true)
+returns-then-ne c = search rules
 
-pub returns : goal.returns
+pub returns-else-ne : goal.returns-else-ne
 unfolding index_conflict
-returns c = simp (c.if-x.false, ne_eqb _ _ c.if-stamp-eq0.false) (ap not c.sees.ensures)
+returns-else-ne c = search rules
