@@ -1,7 +1,7 @@
 -- What a lent array of n places holds, whatever the length of the list behind it: the form in which contracts read lent arrays.
 use Rattle.std.specs.Prelude.{◌≡◌, Bool, false, length, get_or, drop}
 use Rattle.std.proofs.Math.Path.{refl, ap}
-use Rattle.std.proofs.Common.{sym, not-suc-le-zero, le_of_suc-le-suc, suc-ne-zero, add-one, arith, drop_of_length-le, drop-cons}
+use Rattle.std.proofs.Common.{sym, ◌∙◌, not-suc-le-zero, le_of_suc-le-suc, suc-ne-zero, add-one, arith, drop_of_length-le, drop-cons}
 use mathlib.Core.List.{List, [], ◌∷◌}
 use Prim.Native.Nat.{ℕ, zero, suc, ◌+◌, ◌<◌, ◌≤◌}
 use Rattle.std.proofs.Math.Nat.{suc_inj}
@@ -50,6 +50,10 @@ module _ {ℓ} {A : Type ℓ} where
 
   pub array_end : (n : ℕ) (z : A) (l : List A) (i : ℕ) → n ≤ i → drop i (array n z l) ≡ []
   array_end n z l i h = let long = array_length n z l in drop_of_length-le (array n z l) {i = i} (omega arith)
+
+-- what is read at a place p of an array that has its length
+pub lent_at : {A : Type 0} (n : ℕ) (l : List A) (z : A) {v : A} {i p : ℕ} → length l ≡ n → i ≡ p → v ≡ get_or (array n z l) i z → v ≡ get_or l p z
+lent_at {A} n l z {i = i} long place e = rw place at (e ∙ ap (λ (x : List A). get_or x i z) (array_same n z l long))
 
 -- the arrays of the store by their places
 abbrev pub at_rows : List ℕ → List ℕ
