@@ -4,7 +4,7 @@ use Rattle.std.proofs.Math.Bool.{and-true, and-false}
 use borrow.Author.Tests.{eq-eqb, ne_eqb, lt-ltb, le-ltb}
 use Rattle.rules.specs.Lists.{all, every, all_zero, rising, before_zero}
 use Rattle.rules.specs.Store.{active_in_form}
-use Rattle.fields.specs.Lent.{array, array_cons, array_end}
+use Rattle.std.proofs.Common.{drop_of_length-le, drop-cons, add-one}
 
 -- rising past `before` and below the clock up to the first 0, and zero after it
 abbrev pub active_from : ℕ → ℕ → List ℕ → Bool
@@ -37,30 +37,33 @@ unfolding active_in_form every
 active_from_law act clock = same_test clock 0 act
 
 -- what is left to test from i on
-unfoldable pub active_left : ℕ → ℕ → ℕ → List ℕ → ℕ → Bool
-active_left clock before n l i = active_from clock before (drop i (array n 0 l))
+unfoldable pub active_left : ℕ → ℕ → List ℕ → ℕ → Bool
+active_left clock before l i = active_from clock before (drop i l)
 
-module _ (clock before n : ℕ) (l : List ℕ) (i : ℕ) (w : Bool) where
-  -- the list ends at i: zeros are left
-  pub active_stop : active_left clock before n l i ≡ w → i < n → get_or l i 0 ≡ 0 → all_zero (drop (i + 1) (array n 0 l)) ≡ w
+module _ (clock before : ℕ) (l : List ℕ) (i : ℕ) (w : Bool) (left : active_left clock before l i ≡ w) where
+  pub active_end : length l ≤ i → true ≡ w
   unfolding active_left
-  active_stop e h q = rw (array_cons n 0 l i h, eq-eqb (get_or l i 0) 0 q) at e
+  active_end h = rw (drop_of_length-le l {i = i} h) at left
 
-  -- the txid at i does not rise, or is not below the clock
-  pub active_low : active_left clock before n l i ≡ w → i < n → (get_or l i 0 ≡ 0 → ⊥) → get_or l i 0 ≤ before → false ≡ w
-  unfolding active_left
-  active_low e h q k = rw (array_cons n 0 l i h, ne_eqb (get_or l i 0) 0 q, le-ltb before (get_or l i 0) k) at e
+  module _ (h : i < length l) where
+    -- the list ends at i: zeros are left
+    pub active_stop : get_or l i 0 ≡ 0 → all_zero (drop i l) ≡ w
+    unfolding active_left
+    active_stop q = rw (drop-cons l i 0 h, eq-eqb (get_or l i 0) 0 q) (rw (drop-cons l i 0 h, eq-eqb (get_or l i 0) 0 q) at left)
 
-  pub active_high : active_left clock before n l i ≡ w → i < n → (get_or l i 0 ≡ 0 → ⊥) → before < get_or l i 0 → clock ≤ get_or l i 0 → false ≡ w
-  unfolding active_left
-  active_high e h q k m = rw (array_cons n 0 l i h, ne_eqb (get_or l i 0) 0 q, lt-ltb before (get_or l i 0) k, le-ltb (get_or l i 0) clock m) at e
+    module _ (q : get_or l i 0 ≡ 0 → ⊥) where
+      -- the txid at i does not rise, or is not below the clock
+      pub active_low : get_or l i 0 ≤ before → false ≡ w
+      unfolding active_left
+      active_low k = rw (drop-cons l i 0 h, ne_eqb (get_or l i 0) 0 q, le-ltb before (get_or l i 0) k) at left
 
-  -- it does and is: the rest decides
-  pub active_pass : active_left clock before n l i ≡ w → i < n → (get_or l i 0 ≡ 0 → ⊥) → before < get_or l i 0 → get_or l i 0 < clock
-      → active_left clock (get_or l i 0) n l (i + 1) ≡ w
-  unfolding active_left
-  active_pass e h q k m = rw (array_cons n 0 l i h, ne_eqb (get_or l i 0) 0 q, lt-ltb before (get_or l i 0) k, lt-ltb (get_or l i 0) clock m) at e
+      pub active_high : before < get_or l i 0 → clock ≤ get_or l i 0 → false ≡ w
+      unfolding active_left
+      active_high k m = rw (drop-cons l i 0 h, ne_eqb (get_or l i 0) 0 q, lt-ltb before (get_or l i 0) k, le-ltb (get_or l i 0) clock m) at left
 
-  pub active_end : active_left clock before n l i ≡ w → n ≤ i → true ≡ w
-  unfolding active_left
-  active_end e h = rw (array_end n 0 l i h) at e
+      -- it does and is: the rest decides
+      pub active_pass : before < get_or l i 0 → get_or l i 0 < clock → active_left clock (get_or l i 0) l (i + 1) ≡ w
+      unfolding active_left
+      active_pass k m =
+          rw add-one
+          (rw (drop-cons l i 0 h, ne_eqb (get_or l i 0) 0 q, lt-ltb before (get_or l i 0) k, lt-ltb (get_or l i 0) clock m) at left)

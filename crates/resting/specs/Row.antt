@@ -1,117 +1,87 @@
--- The admission tests of a store whose fields are lent, as rows of the tests that the code makes.
-use Rattle.std.specs.Prelude.{◌≡◌, Bool, true, false, ◌&&◌, ◌||◌, List, [], ◌∷◌, ◌++◌, ℕ, get_or, take, eqb, ltb, leb}
-use Rattle.std.proofs.Common.{sym, ◌∙◌}
+-- The admission tests of a store as rows of the tests that the code makes.
+use Rattle.std.specs.Prelude.{◌≡◌, refl, Bool, true, false, ◌&&◌, ◌||◌, List, [], ◌∷◌, ℕ, length, take, eqb, ltb, leb}
+use Rattle.std.proofs.Common.{◌∙◌}
 use Rattle.std.proofs.Math.Path.{ap}
-use borrow.Author.Tests.{eq-eqb, ne_eqb}
-use Rattle.std.proofs.Math.ListN.{length}
 use Rattle.std.proofs.Math.Seq.{length-take-le}
-use Rattle.records.specs.Limits.{rows, posting_limit, stripes, partitions, active_limit}
+use Rattle.records.specs.Limits.{rows, places, posting_limit}
 use Rattle.rules.specs.Types.{Store}
 use Rattle.rules.specs.Lists.{all, every, each_or, those, same, all_zero, is_zero, nonzero}
 use Rattle.rules.specs.Store.{used_slots, slots_in_form, postings_of, postings_in_form, active_in_form}
-use Rattle.rules.specs.Chains.{walk}
-use Rattle.rules.specs.Admitted.{off_ok, rests_at, repairable, resting, head_postings}
-use Rattle.basic_laws.specs.Members.{Each}
-use Rattle.fields.specs.Lent.{array, array_length, at_rows, at_places, flags_at_places}
-use Rattle.fields.specs.Every.{Holds, every_fails, every_last}
-use Rattle.resting.specs.Lending.{lent_store}
-use Rattle.fields.specs.Walked.{marks_array}
-use Rattle.resting.specs.VersionTurns.{fin, chain_at}
+use Rattle.rules.specs.Chains.{Walk, walk}
+use Rattle.rules.specs.Admitted.{repairable, resting, head_postings}
+use Rattle.fields.specs.Lent.{array_same, at_rows, at_places}
+use Rattle.resting.specs.VersionTurns.{chain_at}
 use Rattle.resting.specs.Used.{off_at, rest_at}
-use Rattle.resting.specs.PostingForm.{postings_form, form_count, form_rises, told_at}
+use Rattle.resting.specs.PostingForm.{form_count, form_rises, told_at, valued_by}
 use Rattle.resting.specs.PostingsTold.{told_same}
 
--- the rules for slots, under the marks of a walk
-module _ (xmin xmax next act : List ℕ) (doomed : ℕ) (seen marks l : List ℕ) (e : at_places seen ≡ marks) where
-  off_marks : all (off_at xmin xmax next act doomed seen) l ≡ all (off_ok (at_places xmin) (at_places xmax) (at_places next) (fin act doomed) marks) l
-  unfolding off_at
-  off_marks = ap (λ m. all (off_ok (at_places xmin) (at_places xmax) (at_places next) (fin act doomed) m) l) e
+-- a row of tests, from the first on
+abbrev so_far : Bool → List Bool → Bool
+so_far v [] = v
+so_far v (b ∷ l) = so_far (v && b) l
 
-  rest_marks : all (rest_at xmin xmax act doomed seen) l ≡ all (rests_at (at_places xmin) (at_places xmax) (fin act doomed) doomed marks) l
-  unfolding rest_at
-  rest_marks = ap (λ m. all (rests_at (at_places xmin) (at_places xmax) (fin act doomed) doomed m) l) e
+so_far_every : (v : Bool) (l : List Bool) → so_far v l ≡ (v && every l)
+unfolding every
+so_far_every true [] = refl
+so_far_every false [] = refl
+so_far_every true (b ∷ l) = so_far_every b l
+so_far_every false (b ∷ l) = so_far_every false l
 
-module _ (heads xmin xmax next key : List ℕ) (has locked : List Bool) (owner act : List ℕ) (clock doomed : ℕ) (seen : List ℕ)
-    (marks : seen ≡ (walk (at_rows heads) (at_places next)).seen) where
-  abbrev first : List Bool
-  first =
-      leb 1 clock
-      ∷ slots_in_form (lent_store [] xmin xmax next key has locked owner [] 0 [] [] [] 0 false 0)
-      ∷ active_in_form (array active_limit 0 act) clock
-      ∷ all (λ t. ltb t clock) (at_places xmin)
-      ∷ ltb doomed clock
-      ∷ (walk (at_rows heads) (at_places next)).ok
-      ∷ each_or is_zero nonzero (at_places seen) (at_places xmin)
-      ∷ all (chain_at xmin xmax next act doomed) (at_rows heads)
-      ∷ []
+-- a test that stands under another one
+under : (p f q h k : Bool) → (f ≡ true → h ≡ k) → (((p && f) && q) && h) ≡ (((p && f) && q) && k)
+under true true q h k e = rw (e refl)
+under true false q h k e = refl
+under false f q h k e = refl
 
-  abbrev last : Bool
-  last = all (off_at xmin xmax next act doomed seen) (used_slots (at_places xmin))
+-- the marks are those of the walk of the store
+module _ (S : Store) (long : length S.heads ≡ rows) (many : length S.next ≡ places) where
+  walk_is : walk (at_rows S.heads) (at_places S.next) ≡ walk S.heads S.next
+  walk_is = rw (array_same rows 0 S.heads long, array_same places 0 S.next many)
 
-  abbrev lent : Store
-  lent = lent_store heads xmin xmax next key has locked owner [] 0 [] [] act clock false doomed
+  module _ (seen : List ℕ) (apart : Bool) (w : ◌≡◌ {A = Walk} (record { ok = apart; seen = seen }) (walk (at_rows S.heads) (at_places S.next))) where
+    repairable_is : ((((((((leb 1 S.clock && slots_in_form S) && active_in_form S.active S.clock) && all (λ t. ltb t S.clock) S.xmin) && ltb S.doomed S.clock)
+        && apart) && each_or is_zero nonzero seen S.xmin) && all (chain_at S) S.heads) && all (off_at S seen) (used_slots S.xmin)) ≡ repairable S
+    unfolding repairable chain_at off_at
+    repairable_is =
+        let e = w ∙ walk_is in
+        rw (← e) (so_far_every true (leb 1 S.clock ∷ slots_in_form S ∷ active_in_form S.active S.clock ∷ all (λ t. ltb t S.clock) S.xmin ∷ ltb S.doomed S.clock
+        ∷ apart ∷ each_or is_zero nonzero seen S.xmin ∷ all (chain_at S) S.heads ∷ all (off_at S seen) (used_slots S.xmin) ∷ []))
 
-  row_is : every (first ++ (last ∷ [])) ≡ repairable lent
-  unfolding repairable chain_at slots_in_form
-  row_is = rw (
-    off_marks xmin xmax next act doomed seen (walk (at_rows heads) (at_places next)).seen (used_slots (at_places xmin))
-        (marks_array (at_rows heads) (at_places next) seen marks),
-    marks_array (at_rows heads) (at_places next) seen marks,
-  )
+    pub repairable_says : (v r : Bool)
+        → v ≡ (((((((leb 1 S.clock && slots_in_form S) && active_in_form S.active S.clock) && all (λ t. ltb t S.clock) S.xmin) && ltb S.doomed S.clock)
+        && apart) && each_or is_zero nonzero seen S.xmin) && all (chain_at S) S.heads)
+        → r ≡ (v && all (off_at S seen) (used_slots S.xmin)) → r ≡ repairable S
+    repairable_says v r d e = (rw d at e) ∙ repairable_is
 
-  -- the test at place k fails; or all but the last hold
-  pub repairable_fails : (k : ℕ) → get_or (first ++ (last ∷ [])) k true ≡ false → false ≡ repairable lent
-  repairable_fails k e = sym (every_fails (first ++ (last ∷ [])) k e) ∙ row_is
+  module _ (seen : List ℕ) (marks : seen ≡ (walk (at_rows S.heads) (at_places S.next)).seen) where
+    abbrev healthy : Bool
+    healthy = eqb S.doomed 0 && same (postings_of S) (head_postings S.key S.has 0 S.heads)
 
-  pub repairable_last : (r : Bool) → Each Holds first → r ≡ last → r ≡ repairable lent
-  repairable_last r h e = e ∙ sym (every_last first last h) ∙ row_is
+    resting_is : (((((repairable S && all_zero S.stripe_guards) && all_zero S.partition_guards) && postings_in_form S)
+        && all (rest_at S seen) (used_slots S.xmin)) && (S.poisoned || healthy)) ≡ resting S
+    unfolding resting rest_at
+    resting_is =
+        let e = marks ∙ ap (λ (w : Walk). w.seen) walk_is in
+        rw (← e) (so_far_every true (repairable S ∷ all_zero S.stripe_guards ∷ all_zero S.partition_guards ∷ postings_in_form S
+        ∷ all (rest_at S seen) (used_slots S.xmin) ∷ (S.poisoned || healthy) ∷ []))
 
-module _ (heads xmin xmax next key : List ℕ) (has locked : List Bool) (owner postings : List ℕ) (count : ℕ) (stripe_guards partition_guards act : List ℕ)
-    (clock : ℕ) (poisoned : Bool) (doomed : ℕ) (seen : List ℕ) (marks : seen ≡ (walk (at_rows heads) (at_places next)).seen) where
-  abbrev posted : List ℕ
-  posted = take count (array posting_limit 0 postings)
+    told : Bool
+    told = all (told_at S) (take S.posting_count S.postings) && eqb S.posting_count (length (those (valued_by S) S.heads))
 
-  abbrev before : List Bool
-  before =
-      repairable (lent_store heads xmin xmax next key has locked owner [] 0 [] [] act clock false doomed)
-      ∷ all_zero (array stripes 0 stripe_guards)
-      ∷ all_zero (array partitions 0 partition_guards)
-      ∷ postings_form postings count
-      ∷ all (rest_at xmin xmax act doomed seen) (used_slots (at_places xmin))
-      ∷ []
+    -- postings in their form are those of the heads where the heads tell them
+    told_is : length S.postings ≡ posting_limit → postings_in_form S ≡ true → told ≡ same (postings_of S) (head_postings S.key S.has 0 S.heads)
+    unfolding told told_at valued_by postings_of
+    told_is p form =
+        let n : length (take S.posting_count S.postings) ≡ S.posting_count = length-take-le S.posting_count S.postings (rw p (form_count S form)) in
+        rw n at (told_same S.key S.has S.heads long (take S.posting_count S.postings) (form_rises S form))
 
-  abbrev healthy : Bool
-  healthy = poisoned || (eqb doomed 0 && same posted (head_postings (at_places key) (flags_at_places has) 0 (at_rows heads)))
-
-  abbrev whole : Store
-  whole = lent_store heads xmin xmax next key has locked owner postings count stripe_guards partition_guards act clock poisoned doomed
-
-  rest_row_is : every (before ++ (healthy ∷ [])) ≡ resting whole
-  unfolding resting repairable slots_in_form postings_in_form postings_of postings_form
-  rest_row_is =
-      rw (rest_marks xmin xmax next act doomed seen (walk (at_rows heads) (at_places next)).seen (used_slots (at_places xmin))
-      (marks_array (at_rows heads) (at_places next) seen marks))
-
-  -- the test at place k fails; or all but the last hold, which goes by poison, doom and the postings
-  pub resting_fails : (k : ℕ) → get_or (before ++ (healthy ∷ [])) k true ≡ false → false ≡ resting whole
-  resting_fails k e = sym (every_fails (before ++ (healthy ∷ [])) k e) ∙ rest_row_is
-
-  module _ (h : Each Holds before) where
-    decides : (r : Bool) → r ≡ healthy → r ≡ resting whole
-    decides r e = e ∙ sym (every_last before healthy h) ∙ rest_row_is
-
-    pub resting_poisoned : poisoned ≡ true → true ≡ resting whole
-    resting_poisoned p = decides true (rw p)
-
-    pub resting_doomed : poisoned ≡ false → (doomed ≡ 0 → ⊥) → false ≡ resting whole
-    resting_doomed p d = decides false (rw (p, ne_eqb doomed 0 d))
-
-    pub resting_told : poisoned ≡ false → doomed ≡ 0 → (r : Bool)
-        → r ≡ (all (told_at heads key has) posted && eqb count (length (those (λ h. get_or (flags_at_places has) h false) (at_rows heads)))) → r ≡ resting whole
-    unfolding told_at
-    resting_told p d r e =
-        let form = h.1.1.1.0 in
-        let long : length posted ≡ count =
-        length-take-le count (array posting_limit 0 postings) (rw (array_length posting_limit 0 postings) (form_count postings count form)) in
-        let told = told_same (at_places key) (flags_at_places has) (at_rows heads) (array_length rows 0 heads) posted (form_rises postings count form) in
-        decides r (rw (p, eq-eqb doomed 0 d) (e ∙ (rw long at told)))
+    pub resting_says : length S.postings ≡ posting_limit → (v r : Bool)
+        → v ≡ ((((repairable S && all_zero S.stripe_guards) && all_zero S.partition_guards) && postings_in_form S) && all (rest_at S seen) (used_slots S.xmin))
+        → r ≡ (v && (S.poisoned || (eqb S.doomed 0 && (all (told_at S) (take S.posting_count S.postings)
+        && eqb S.posting_count (length (those (valued_by S) S.heads)))))) → r ≡ resting S
+    unfolding told
+    resting_says p v r d e =
+        (rw d at e)
+        ∙ under ((repairable S && all_zero S.stripe_guards) && all_zero S.partition_guards) (postings_in_form S) (all (rest_at S seen) (used_slots S.xmin))
+        (S.poisoned || (eqb S.doomed 0 && told)) (S.poisoned || healthy) (λ form. rw (told_is p form))
+        ∙ resting_is

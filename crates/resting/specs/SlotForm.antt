@@ -1,19 +1,19 @@
 -- The form of the slots, tested slot by slot.
-use Rattle.std.specs.Prelude.{◌≡◌, Bool, ◌&&◌, ◌||◌, List, [], ◌∷◌, ℕ, ◌+◌, ◌<◌, ◌≤◌, length, get_or, eqb}
+use Rattle.std.specs.Prelude.{◌≡◌, Bool, ◌&&◌, ◌||◌, List, [], ◌∷◌, ℕ, ◌+◌, ◌<◌, ◌≤◌, length, get_or, drop, eqb}
 use Rattle.std.proofs.Math.Path.{refl, sym}
-use Rattle.std.proofs.Common.{◌∙◌, suc-ne-zero, eqb-true}
-use Rattle.std.proofs.Math.Bool.{true, false, not, and-false}
+use Rattle.std.proofs.Common.{arith, suc-ne-zero, eqb-true, drop-cons, drop_of_length-le, add-one}
+use Rattle.std.proofs.Math.Bool.{true, false, not, and-true, and-false}
 use Rattle.std.proofs.Math.Nat.{suc_inj}
 use Rattle.std.proofs.Math.Dec.{leb}
+use Rattle.std.specs.List.{list_all, zip}
 use Rattle.records.specs.Limits.{places, last_minute}
-use Rattle.basic_laws.specs.Cases.{by}
+use Rattle.rules.specs.Types.{Store}
 use Rattle.rules.specs.Lists.{every, each_or, is_zero, nonzero}
-use Rattle.fields.specs.Lent.{at_places, flags_at_places}
 use Rattle.rules.specs.Store.{slots_in_form}
-use Rattle.fields.specs.Facts.{nonzero_no}
-use Rattle.fields.specs.Every.{each_every}
-use Rattle.resting.specs.Lending.{lent_store}
-use Rattle.resting.specs.PairScan.{each_left, each_here, each_end}
+use Rattle.statements.specs.Sized.{Sized}
+use Rattle.basic_laws.specs.Cases.{by}
+use Rattle.fields.specs.Facts.{nonzero_yes, nonzero_no, zero_yes, zero_no}
+use Rattle.fields.specs.Every.{every_fails}
 
 -- two rows side by side
 abbrev both : List Bool → List Bool → List Bool
@@ -34,99 +34,126 @@ both_every (a ∷ p) (b ∷ q) e = rw (both_every p q (suc_inj e)) (regroup a b)
     regroup false b = refl
 
 -- "A free slot is all zero; an absent key is stored as 0"; a used one's is a minute: the tests of one slot
-abbrev pub slot_form : ℕ → ℕ → ℕ → ℕ → Bool → Bool → ℕ → List Bool
-slot_form xmin xmax next key has locked owner =
-    (nonzero xmin || is_zero xmax)
-    ∷ (nonzero xmin || is_zero next)
-    ∷ (nonzero xmin || not has)
-    ∷ (nonzero xmin || not locked)
-    ∷ (nonzero xmin || is_zero owner)
-    ∷ (has || is_zero key)
-    ∷ (is_zero xmin || leb key last_minute)
+abbrev pub slot_form : Store → ℕ → List Bool
+slot_form S i =
+    let used = nonzero (get_or S.xmin i 0) in
+    (used || is_zero (get_or S.xmax i 0))
+    ∷ (used || is_zero (get_or S.next i 0))
+    ∷ (used || not (get_or S.has i false))
+    ∷ (used || not (get_or S.locked i false))
+    ∷ (used || is_zero (get_or S.owner i 0))
+    ∷ (get_or S.has i false || is_zero (get_or S.key i 0))
+    ∷ (is_zero (get_or S.xmin i 0) || leb (get_or S.key i 0) last_minute)
     ∷ []
 
--- key 0 is a minute
-pub zero_minute : (k : ℕ) → is_zero k ≡ (is_zero k && leb k last_minute)
-zero_minute k = by (eqb k 0) (λ e. rw (eqb-true k 0 e)) (λ e. rw e)
+-- a free slot's tests, one after the other
+in_row : (a b h l o k : Bool) → (((((a && b) && not h) && not l) && o) && k) ≡ (a && (b && (not h && (not l && (o && ((h || k) && (true && true)))))))
+in_row true true false false true k = sym (and-true k)
+in_row true true false false false k = refl
+in_row true true false true o k = refl
+in_row true true true l o k = refl
+in_row true false h l o k = refl
+in_row false b h l o k = refl
 
-module _ (xmin xmax next key : List ℕ) (has locked : List Bool) (owner : List ℕ) where
+-- the ways a slot's form comes out: it is used and has a key, or none; or it is free
+module _ (S : Store) (i : ℕ) where
+  pub form_keyed : (get_or S.xmin i 0 ≡ 0 → ⊥) → get_or S.has i false ≡ true → leb (get_or S.key i 0) last_minute ≡ every (slot_form S i)
+  unfolding every
+  form_keyed n h = rw (nonzero_yes n, zero_no n, h) (sym (and-true _))
+
+  pub form_absent : (get_or S.xmin i 0 ≡ 0 → ⊥) → get_or S.has i false ≡ false → is_zero (get_or S.key i 0) ≡ every (slot_form S i)
+  unfolding every
+  form_absent n h =
+      rw (nonzero_yes n, zero_no n, h, and-true (leb (get_or S.key i 0) last_minute))
+      (by (eqb (get_or S.key i 0) 0) (λ e. rw (eqb-true (get_or S.key i 0) 0 e)) (λ e. rw e))
+
+  pub form_free : get_or S.xmin i 0 ≡ 0
+      → (((((is_zero (get_or S.xmax i 0) && is_zero (get_or S.next i 0)) && not (get_or S.has i false)) && not (get_or S.locked i false))
+      && is_zero (get_or S.owner i 0)) && is_zero (get_or S.key i 0)) ≡ every (slot_form S i)
+  unfolding every
+  form_free n =
+      rw (nonzero_no n, zero_yes n)
+      (in_row (is_zero (get_or S.xmax i 0)) (is_zero (get_or S.next i 0)) (get_or S.has i false) (get_or S.locked i false) (is_zero (get_or S.owner i 0))
+      (is_zero (get_or S.key i 0)))
+
+-- the same at every pair of two lists side by side
+pub pairs_are : {A B : Type 0} (f : A → Bool) (g : B → Bool) (l : List A) (m : List B) → length l ≡ length m
+    → list_all (λ (p : A × B). f p.0 || g p.1) (zip l m) ≡ each_or f g l m
+pairs_are f g [] [] e = refl
+pairs_are f g [] (y ∷ m) e = absurd (suc-ne-zero (length m) (sym e))
+pairs_are f g (x ∷ l) [] e = refl
+pairs_are f g (x ∷ l) (y ∷ m) e = rw (pairs_are f g l m (suc_inj e))
+
+-- at every place from i on, f holds of the first list or g of the second
+unfoldable pub each_left {ℓ κ} : {A : Type ℓ} {B : Type κ} → (A → Bool) → (B → Bool) → List A → List B → ℕ → Bool
+each_left f g l m i = each_or f g (drop i l) (drop i m)
+
+module _ {ℓ κ} {A : Type ℓ} {B : Type κ} (f : A → Bool) (g : B → Bool) (y : A) (z : B) (l : List A) (m : List B) (i : ℕ) where
+  -- the two at i, and the rest; or none is left
+  each_here : length l ≡ places → length m ≡ places → i < places
+      → each_left f g l m i ≡ ((f (get_or l i y) || g (get_or m i z)) && each_left f g l m (i + 1))
+  unfolding each_left
+  each_here p q h = rw (add-one, drop-cons l i y (omega arith), drop-cons m i z (omega arith))
+
+  each_end : length m ≡ places → places ≤ i → each_left f g l m i ≡ true
+  unfolding each_left
+  each_end q h = rw (drop_of_length-le m {i = i} (omega arith))
+
+module _ (S : Store) where
   abbrev tests : ℕ → List Bool
   tests i =
-      each_left nonzero is_zero places 0 0 xmin xmax i
-      ∷ each_left nonzero is_zero places 0 0 xmin next i
-      ∷ each_left nonzero not places 0 false xmin has i
-      ∷ each_left nonzero not places 0 false xmin locked i
-      ∷ each_left nonzero is_zero places 0 0 xmin owner i
-      ∷ each_left (λ b. b) is_zero places false 0 has key i
-      ∷ each_left is_zero (λ k. leb k last_minute) places 0 0 xmin key i
+      each_left nonzero is_zero S.xmin S.xmax i
+      ∷ each_left nonzero is_zero S.xmin S.next i
+      ∷ each_left nonzero not S.xmin S.has i
+      ∷ each_left nonzero not S.xmin S.locked i
+      ∷ each_left nonzero is_zero S.xmin S.owner i
+      ∷ each_left (λ b. b) is_zero S.has S.key i
+      ∷ each_left is_zero (λ k. leb k last_minute) S.xmin S.key i
       ∷ []
 
   -- the slots from i on are in form
   unfoldable pub form_left : ℕ → Bool
   form_left i = every (tests i)
 
-  -- all of them: the definition's rows
-  form_whole : form_left 0 ≡ every (
-      each_or nonzero is_zero (at_places xmin) (at_places xmax)
-      ∷ each_or nonzero is_zero (at_places xmin) (at_places next)
-      ∷ each_or nonzero not (at_places xmin) (flags_at_places has)
-      ∷ each_or nonzero not (at_places xmin) (flags_at_places locked)
-      ∷ each_or nonzero is_zero (at_places xmin) (at_places owner)
-      ∷ each_or (λ b. b) is_zero (flags_at_places has) (at_places key)
-      ∷ each_or is_zero (λ k. leb k last_minute) (at_places xmin) (at_places key)
-      ∷ [])
-  unfolding form_left each_left
-  form_whole = refl
+  -- place 0 holds none: the slots decide
+  pub form_says : {w : Bool} → get_or S.xmin 0 0 ≡ 0 → w ≡ form_left 0 → w ≡ slots_in_form S
+  unfolding slots_in_form every form_left each_left
+  form_says z e = rw (nonzero_no z) e
 
-  -- t, which stands at place 0, is none: the rest decides
-  pub form_says : {t : ℕ} {w : Bool} → t ≡ get_or (at_places xmin) 0 0 → t ≡ 0 → w ≡ form_left 0
-      → w ≡ slots_in_form (lent_store [] xmin xmax next key has locked owner [] 0 [] [] [] 0 false 0)
-  unfolding slots_in_form every
-  form_says q z e = rw (← q, nonzero_no z) (e ∙ form_whole)
+  pub form_zero : (get_or S.xmin 0 0 ≡ 0 → ⊥) → false ≡ slots_in_form S
+  unfolding slots_in_form
+  form_zero n = sym (every_fails _ 0 (rw (nonzero_yes n)))
 
-  module _ (i : ℕ) where
-    abbrev here : List Bool
-    here = slot_form (get_or xmin i 0) (get_or xmax i 0) (get_or next i 0) (get_or key i 0) (get_or has i false) (get_or locked i false) (get_or owner i 0)
-
-    form_here : i < places → form_left i ≡ (every here && form_left (i + 1))
+  module _ (z : Sized S) (i : ℕ) where
+    form_here : i < places → form_left i ≡ (every (slot_form S i) && form_left (i + 1))
     unfolding form_left
     form_here h =
         rw (
-          each_here nonzero is_zero places 0 0 xmin xmax i true h,
-          each_here nonzero is_zero places 0 0 xmin next i true h,
-          each_here nonzero not places 0 false xmin has i true h,
-          each_here nonzero not places 0 false xmin locked i true h,
-          each_here nonzero is_zero places 0 0 xmin owner i true h,
-          each_here (λ b. b) is_zero places false 0 has key i true h,
-          each_here is_zero (λ k. leb k last_minute) places 0 0 xmin key i true h,
+          each_here nonzero is_zero 0 0 S.xmin S.xmax i z.xmin z.xmax h,
+          each_here nonzero is_zero 0 0 S.xmin S.next i z.xmin z.next h,
+          each_here nonzero not 0 false S.xmin S.has i z.xmin z.has h,
+          each_here nonzero not 0 false S.xmin S.locked i z.xmin z.locked h,
+          each_here nonzero is_zero 0 0 S.xmin S.owner i z.xmin z.owner h,
+          each_here (λ b. b) is_zero false 0 S.has S.key i z.has z.key h,
+          each_here is_zero (λ k. leb k last_minute) 0 0 S.xmin S.key i z.xmin z.key h,
         )
-        (both_every here (tests (i + 1)) refl)
+        (both_every (slot_form S i) (tests (i + 1)) refl)
 
     -- the slot at i is in form: the rest decides; or it is not; or none is left
-    pub form_pass : {r w : Bool} → form_left i ≡ w → i < places → r ≡ every here → r ≡ true → form_left (i + 1) ≡ w
-    form_pass e h q t = rw (form_here h, ← q, t) at e
+    pub form_pass : {w : Bool} → form_left i ≡ w → i < places → every (slot_form S i) ≡ true → form_left (i + 1) ≡ w
+    form_pass e h t = rw (form_here h, t) at e
 
-    pub form_fail : {r w : Bool} → form_left i ≡ w → i < places → r ≡ every here → r ≡ false → false ≡ w
-    form_fail e h q t = rw (form_here h, ← q, t) at e
+    pub form_fail : {w : Bool} → form_left i ≡ w → i < places → every (slot_form S i) ≡ false → false ≡ w
+    form_fail e h t = rw (form_here h, t) at e
 
     pub form_end : {w : Bool} → form_left i ≡ w → places ≤ i → true ≡ w
-    unfolding form_left
-    form_end e h = rw (each_every (tests i) (
-      sym (each_end nonzero is_zero places 0 0 xmin xmax i _ refl h),
-      (
-        sym (each_end nonzero is_zero places 0 0 xmin next i _ refl h),
-        (
-          sym (each_end nonzero not places 0 false xmin has i _ refl h),
-          (
-            sym (each_end nonzero not places 0 false xmin locked i _ refl h),
-            (
-              sym (each_end nonzero is_zero places 0 0 xmin owner i _ refl h),
-              (
-                sym (each_end (λ b. b) is_zero places false 0 has key i _ refl h),
-                (sym (each_end is_zero (λ k. leb k last_minute) places 0 0 xmin key i _ refl h), tt),
-              ),
-            ),
-          ),
-        ),
-      ),
-    )) at e
+    unfolding form_left every
+    form_end e h = rw (
+      each_end nonzero is_zero 0 0 S.xmin S.xmax i z.xmax h,
+      each_end nonzero is_zero 0 0 S.xmin S.next i z.next h,
+      each_end nonzero not 0 false S.xmin S.has i z.has h,
+      each_end nonzero not 0 false S.xmin S.locked i z.locked h,
+      each_end nonzero is_zero 0 0 S.xmin S.owner i z.owner h,
+      each_end (λ b. b) is_zero false 0 S.has S.key i z.key h,
+      each_end is_zero (λ k. leb k last_minute) 0 0 S.xmin S.key i z.key h,
+    ) at e

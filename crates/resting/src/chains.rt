@@ -4,210 +4,120 @@ ghost use Rattle.std.specs.Prelude.{◌≡◌, ◌<◌};
 ghost use Rattle.records.specs.Limits.{places};
 ghost use Rattle.rules.specs.Lists.{all};
 ghost use Rattle.rules.specs.Store.{used_slots};
-ghost use Rattle.fields.specs.Lent.{at_rows, at_places};
-ghost use Rattle.resting.specs.VersionTurns.{tail_at, chain_at};
+ghost use Rattle.rules.specs.Admitted.{finished};
+ghost use Rattle.resting.specs.VersionTurns.{tail_at, behind_at, chain_at};
 ghost use Rattle.resting.specs.Used.{off_at, settled_by, rest_at};
 
-use super::active::is_finished;
-use super::lent::{txid_at, word_at};
-use fields::lent::place;
-use records::{RowId, SlotPtr, Txid};
+use fields::lent::{at, place};
+use fields::txids;
+use records::{SlotPtr, Store};
+
+// Neither active nor doomed, or no txid.
+fn is_finished(s: &Store, t: u64) -> bool
+    ensures { result ≡ finished s.now.active s.now.doomed t }
+{
+    txids::is_finished(&s.active, s.doomed, t)
+}
 
 // Finished versions of at most `left` slots from p on, the first with xmax `over`, each next one with the xmin before it.
-fn tail_ok<'a>(
-    xmin: &'a [u64; SlotPtr::PLACES],
-    xmax: &'a [u64; SlotPtr::PLACES],
-    next: &'a [u32; SlotPtr::PLACES],
-    active: &'a [u64; Txid::ACTIVE],
-    doomed: u64,
-    over: u64,
-    left: usize,
-    p: u32,
-) -> bool
-    ensures { result ≡ tail_at xmin.now xmax.now next.now active.now doomed over left p }
+fn tail_ok(s: &Store, over: u64, left: usize, p: u32) -> bool
+    ensures { result ≡ tail_at s.now over left p }
 {
     let mut v = over;
-    let mut n = left;
     let mut q = p;
-    while 0 < n && q != 0 {
-        let t = txid_at(xmin, q);
-        let u = txid_at(xmax, q);
-        if u != v {
-            return false;
+    for _turn in 0..left {
+        if q == 0 {
+            return true;
         }
-        if !is_finished(active, doomed, t) {
+        let i = place(q);
+        let t = at(&s.xmin, i, 0);
+        if at(&s.xmax, i, 0) != v || !is_finished(s, t) {
             return false;
         }
         v = t;
-        n -= 1;
-        q = word_at(next, q);
+        q = at(&s.next, i, 0);
     }
     true
 }
 
+// Behind an unfinished version of t: the first version's xmax is 0 or t.
+fn behind_ok(s: &Store, t: u64, p: u32) -> bool
+    ensures { result ≡ behind_at s.now t p }
+{
+    if p == 0 {
+        return true;
+    }
+    let by = at(&s.xmax, place(p), 0);
+    (by == 0 || by == t) && tail_ok(s, by, SlotPtr::SLOTS, p)
+}
+
 // "only a chain's first version may have an unfinished xmin, with xmax 0; ..": the chain of one head.
-fn chain_ok<'a>(
-    xmin: &'a [u64; SlotPtr::PLACES],
-    xmax: &'a [u64; SlotPtr::PLACES],
-    next: &'a [u32; SlotPtr::PLACES],
-    active: &'a [u64; Txid::ACTIVE],
-    doomed: u64,
-    head: u32,
-) -> bool
-    ensures { result ≡ chain_at xmin.now xmax.now next.now active.now doomed head }
+fn chain_ok(s: &Store, head: u32) -> bool
+    ensures { result ≡ chain_at s.now head }
 {
     if head == 0 {
         return true;
     }
-    let t = txid_at(xmin, head);
-    let over = txid_at(xmax, head);
-    if is_finished(active, doomed, t) {
-        if over != 0 && is_finished(active, doomed, over) {
-            return false;
-        }
-        return tail_ok(
-            xmin,
-            xmax,
-            next,
-            active,
-            doomed,
-            over,
-            SlotPtr::PLACES,
-            head,
-        );
+    let i = place(head);
+    let t = at(&s.xmin, i, 0);
+    let over = at(&s.xmax, i, 0);
+    if is_finished(s, t) {
+        return (over == 0 || !is_finished(s, over)) && tail_ok(s, over, SlotPtr::PLACES, head);
     }
-    if over != 0 {
-        return false;
-    }
-    let second = word_at(next, head);
-    if second == 0 {
-        return true;
-    }
-    let by = txid_at(xmax, second);
-    if by != 0 && by != t {
-        return false;
-    }
-    tail_ok(xmin, xmax, next, active, doomed, by, SlotPtr::SLOTS, second)
+    over == 0 && behind_ok(s, t, at(&s.next, i, 0))
 }
 
 // Every row's chain.
-pub fn chains_ok<'a>(
-    heads: &'a [u32; RowId::ROWS],
-    xmin: &'a [u64; SlotPtr::PLACES],
-    xmax: &'a [u64; SlotPtr::PLACES],
-    next: &'a [u32; SlotPtr::PLACES],
-    active: &'a [u64; Txid::ACTIVE],
-    doomed: u64,
-) -> bool
-    ensures { result ≡ all (chain_at xmin.now xmax.now next.now active.now doomed)
-        (at_rows heads.now) }
+pub fn chains_ok(s: &Store) -> bool
+    ensures { result ≡ all (chain_at s.now) s.now.heads }
 {
-    let mut r: usize = 0;
-    while r < RowId::ROWS {
-        if !chain_ok(xmin, xmax, next, active, doomed, heads[r]) {
-            return false;
-        }
-        r += 1;
-    }
-    true
+    s.heads.iter().all(|h| chain_ok(s, *h))
 }
 
 // "a used slot off every chain has an unfinished xmin, xmax 0, next at most" the last slot: the slot at place i.
-fn off_ok<'a>(
-    xmin: &'a [u64; SlotPtr::PLACES],
-    xmax: &'a [u64; SlotPtr::PLACES],
-    next: &'a [u32; SlotPtr::PLACES],
-    active: &'a [u64; Txid::ACTIVE],
-    doomed: u64,
-    seen: &[u8; SlotPtr::PLACES],
-    i: usize,
-) -> bool
+fn off_ok(s: &Store, seen: &[u8; SlotPtr::PLACES], i: usize) -> bool
     requires { i < places }
-    ensures { result ≡ off_at xmin.now xmax.now next.now active.now doomed seen.now i }
+    ensures { result ≡ off_at s.now seen.now i }
 {
-    if seen[i] != 0 {
-        return true;
-    }
-    if xmax[i] != 0 {
-        return false;
-    }
-    if SlotPtr::SLOTS < place(next[i]) {
-        return false;
-    }
-    !is_finished(active, doomed, xmin[i])
+    seen[i] != 0
+        || (!is_finished(s, s.xmin[i]) && s.xmax[i] == 0 && place(s.next[i]) <= SlotPtr::SLOTS)
 }
 
 // Every used slot off the chains.
-pub fn off_slots_ok<'a>(
-    xmin: &'a [u64; SlotPtr::PLACES],
-    xmax: &'a [u64; SlotPtr::PLACES],
-    next: &'a [u32; SlotPtr::PLACES],
-    active: &'a [u64; Txid::ACTIVE],
-    doomed: u64,
-    seen: &[u8; SlotPtr::PLACES],
-) -> bool
-    ensures { result ≡ all (off_at xmin.now xmax.now next.now active.now doomed seen.now)
-        (used_slots (at_places xmin.now)) }
+pub fn off_slots_ok(s: &Store, seen: &[u8; SlotPtr::PLACES]) -> bool
+    ensures { result ≡ all (off_at s.now seen.now) (used_slots s.now.xmin) }
 {
-    let mut i: usize = 0;
-    while i < SlotPtr::PLACES {
-        if xmin[i] != 0 {
-            if !off_ok(xmin, xmax, next, active, doomed, seen, i) {
-                return false;
-            }
+    for (i, t) in s.xmin.iter().enumerate() {
+        if *t != 0 && !off_ok(s, seen, i) {
+            return false;
         }
-        i += 1;
     }
     true
 }
 
 // Finished, or the doomed one.
-fn settled(active: &[u64; Txid::ACTIVE], doomed: u64, t: u64) -> bool
-    ensures { result ≡ settled_by active.now doomed t }
+fn settled(s: &Store, t: u64) -> bool
+    ensures { result ≡ settled_by s.now t }
 {
-    is_finished(active, doomed, t) || t == doomed
+    is_finished(s, t) || t == s.doomed
 }
 
 // "any unfinished txid found as a chain's xmin or xmax is the doomed one": the slot at place i.
-fn rest_ok<'a>(
-    xmin: &'a [u64; SlotPtr::PLACES],
-    xmax: &'a [u64; SlotPtr::PLACES],
-    active: &'a [u64; Txid::ACTIVE],
-    doomed: u64,
-    seen: &[u8; SlotPtr::PLACES],
-    i: usize,
-) -> bool
+fn rest_ok(s: &Store, seen: &[u8; SlotPtr::PLACES], i: usize) -> bool
     requires { i < places }
-    ensures { result ≡ rest_at xmin.now xmax.now active.now doomed seen.now i }
+    ensures { result ≡ rest_at s.now seen.now i }
 {
-    if seen[i] == 0 {
-        return true;
-    }
-    if !settled(active, doomed, xmin[i]) {
-        return false;
-    }
-    settled(active, doomed, xmax[i])
+    seen[i] == 0 || (settled(s, s.xmin[i]) && settled(s, s.xmax[i]))
 }
 
 // Every used slot on a chain.
-pub fn chains_rest<'a>(
-    xmin: &'a [u64; SlotPtr::PLACES],
-    xmax: &'a [u64; SlotPtr::PLACES],
-    active: &'a [u64; Txid::ACTIVE],
-    doomed: u64,
-    seen: &[u8; SlotPtr::PLACES],
-) -> bool
-    ensures { result ≡ all (rest_at xmin.now xmax.now active.now doomed seen.now)
-        (used_slots (at_places xmin.now)) }
+pub fn chains_rest(s: &Store, seen: &[u8; SlotPtr::PLACES]) -> bool
+    ensures { result ≡ all (rest_at s.now seen.now) (used_slots s.now.xmin) }
 {
-    let mut i: usize = 0;
-    while i < SlotPtr::PLACES {
-        if xmin[i] != 0 {
-            if !rest_ok(xmin, xmax, active, doomed, seen, i) {
-                return false;
-            }
+    for (i, t) in s.xmin.iter().enumerate() {
+        if *t != 0 && !rest_ok(s, seen, i) {
+            return false;
         }
-        i += 1;
     }
     true
 }

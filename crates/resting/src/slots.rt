@@ -1,103 +1,58 @@
 // The form of the slots: "A free slot is all zero; an absent key is stored as 0." No used slot holds a key over the last minute.
 
-ghost use Rattle.std.specs.Prelude.{◌≡◌, false, [], ltb};
+ghost use Rattle.std.specs.Prelude.{◌≡◌, ◌<◌, ltb};
+ghost use Rattle.records.specs.Limits.{places};
 ghost use Rattle.rules.specs.Lists.{all, every, each_or, is_zero, nonzero};
 ghost use Rattle.rules.specs.Store.{slots_in_form};
-ghost use Rattle.fields.specs.Lent.{at_places};
-ghost use Rattle.resting.specs.Lending.{lent_store};
 ghost use Rattle.resting.specs.SlotForm.{slot_form};
 
-use super::lent::txid_at;
-use records::{SlotPtr, Value};
+use records::{SlotPtr, Store, Value};
 
 // One slot.
-fn slot_in_form(
-    xmin: u64,
-    xmax: u64,
-    next: u32,
-    key: u32,
-    has: bool,
-    locked: bool,
-    owner: u64,
-) -> bool
-    ensures { result ≡ every (slot_form xmin xmax next key has locked owner) }
+fn slot_in_form(s: &Store, i: usize) -> bool
+    requires { i < places }
+    ensures { result ≡ every (slot_form s.now i) }
 {
-    if xmin != 0 {
-        if has {
-            return key <= Value::LAST_MINUTE;
-        }
-        return key == 0;
+    if s.xmin[i] != 0 {
+        return if s.has[i] {
+            s.key[i] <= Value::LAST_MINUTE
+        } else {
+            s.key[i] == 0
+        };
     }
-    if xmax != 0 {
-        return false;
-    }
-    if next != 0 {
-        return false;
-    }
-    if has {
-        return false;
-    }
-    if locked {
-        return false;
-    }
-    if owner != 0 {
-        return false;
-    }
-    key == 0
+    s.xmax[i] == 0
+        && s.next[i] == 0
+        && !s.has[i]
+        && !s.locked[i]
+        && s.owner[i] == 0
+        && s.key[i] == 0
 }
 
 // Every slot, and place 0 is none.
-pub fn slots_in_form<'a>(
-    xmin: &'a [u64; SlotPtr::PLACES],
-    xmax: &'a [u64; SlotPtr::PLACES],
-    next: &'a [u32; SlotPtr::PLACES],
-    key: &'a [u32; SlotPtr::PLACES],
-    has: &'a [bool; SlotPtr::PLACES],
-    locked: &'a [bool; SlotPtr::PLACES],
-    owner: &'a [u64; SlotPtr::PLACES],
-) -> bool
-    ensures { result ≡ slots_in_form (lent_store [] xmin.now xmax.now next.now key.now
-        has.now locked.now owner.now [] 0 [] [] [] 0 false 0) }
+pub fn slots_in_form(s: &Store) -> bool
+    ensures { result ≡ slots_in_form s.now }
 {
-    if txid_at(xmin, 0) != 0 {
+    if s.xmin[0] != 0 {
         return false;
     }
-    let mut i: usize = 0;
-    while i < SlotPtr::PLACES {
-        if !slot_in_form(
-            xmin[i], xmax[i], next[i], key[i], has[i], locked[i], owner[i],
-        ) {
+    for i in 0..SlotPtr::PLACES {
+        if !slot_in_form(s, i) {
             return false;
         }
-        i += 1;
     }
     true
 }
 
 // No free slot is marked.
-pub fn used_if_marked(seen: &[u8; SlotPtr::PLACES], xmin: &[u64; SlotPtr::PLACES]) -> bool
-    ensures { result ≡ each_or is_zero nonzero (at_places seen.now) (at_places xmin.now) }
+pub fn used_if_marked(s: &Store, seen: &[u8; SlotPtr::PLACES]) -> bool
+    ensures { result ≡ each_or is_zero nonzero seen.now s.now.xmin }
 {
-    let mut i: usize = 0;
-    while i < SlotPtr::PLACES {
-        if xmin[i] == 0 && seen[i] != 0 {
-            return false;
-        }
-        i += 1;
-    }
-    true
+    seen.iter().zip(&s.xmin).all(|(m, t)| *m == 0 || *t != 0)
 }
 
 // Every xmin is below the clock.
-pub fn xmins_below(xmin: &[u64; SlotPtr::PLACES], clock: u64) -> bool
-    ensures { result ≡ all (λ t. ltb t clock) (at_places xmin.now) }
+pub fn xmins_below(s: &Store) -> bool
+    ensures { result ≡ all (λ t. ltb t s.now.clock) s.now.xmin }
 {
-    let mut i: usize = 0;
-    while i < SlotPtr::PLACES {
-        if clock <= xmin[i] {
-            return false;
-        }
-        i += 1;
-    }
-    true
+    s.xmin.iter().all(|t| *t < s.clock)
 }

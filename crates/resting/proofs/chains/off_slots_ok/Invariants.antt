@@ -1,18 +1,9 @@
 -- `off_slots_ok` meets its contract: what is left from place i on decides as the whole does.
 use mathlib.Core.Path.{◌≡◌}
-use Prim.Native.Nat.{◌-◌, ◌≤◌}
-use Rattle.records.specs.Limits.{places}
 use Rattle.rules.specs.Lists.{all}
 use Rattle.rules.specs.Store.{used_slots}
-use Rattle.fields.specs.Lent.{at_places}
 use Rattle.resting.specs.Used.{off_at, used_left}
 use Rattle.resting.proofs.chains.off_slots_ok.Given as goal
 
 abbrev pub invariant-loop-i : goal.invariant-loop-i
-invariant-loop-i l =
-    (l.i ≤ places)
-    × (used_left (off_at l.xmin l.xmax l.next l.active l.doomed l.seen) places l.xmin l.i
-    ≡ all (off_at l.xmin l.xmax l.next l.active l.doomed l.seen) (used_slots (at_places l.xmin)))
-
-abbrev pub decreases-loop-i : goal.decreases-loop-i
-decreases-loop-i l = places - l.i
+invariant-loop-i l = used_left (off_at l.s l.seen) l.s.xmin l.i ≡ all (off_at l.s l.seen) (used_slots l.s.xmin)

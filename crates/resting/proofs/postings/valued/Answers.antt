@@ -1,40 +1,16 @@
--- `valued` meets its contract: those counted and those left are all.
-use mathlib.Core.Path.{sym, ◌∙◌}
-use Prim.Native.Nat.{◌<◌}
-use native.Mathlib.Omega.{arith}
-use Rattle.records.specs.Limits.{rows}
-use Rattle.resting.specs.PairScan.{count_left, count_yes, count_no, count_end}
-use Rattle.resting.proofs.postings.valued.Invariants.{valued_by}
+-- `valued` meets its contract.
+use mathlib.Core.Path.{◌∙◌, ap}
+use lib.ListN.{length}
+use borrow.Author.Rules.{rules}
+use Rattle.std.proofs.Common.{tests}
+use Rattle.std.proofs.lemmas.Iterator.{YieldsList-from_slice}
+use Rattle.std.proofs.lemmas.Iterator.Consumers.{YieldsList-from_filter, count_from_yields_List}
+use Rattle.basic_laws.specs.Chains.{those_of_list}
+use Rattle.resting.specs.PostingForm.{valued_by}
 use Rattle.resting.proofs.postings.valued.Goals as goal
-use Rattle.resting.proofs.postings.valued.Goals.{then-flag_at, else-flag_at}
-
-pub loop-r-init : goal.loop-r-init
-unfolding count_left
-loop-r-init c = (omega arith, omega arith, omega arith)
-
-pub loop-r-preserved : goal.loop-r-preserved
-loop-r-preserved c = let h : c.loop-r.r < rows = omega arith in
-    elim c.if-flag_at.branch [
-      | then-flag_at w ↦ (
-        omega arith,
-        omega arith,
-        omega (
-          arith,
-          count_yes (valued_by c.args.has.now) rows 0 c.args.heads.now
-              c.loop-r.r h (sym c.flag_at.ensures ∙ w.if-flag_at.true),
-        ),
-      )
-      | else-flag_at w ↦ (
-        omega arith,
-        omega arith,
-        omega (
-          arith,
-          count_no (valued_by c.args.has.now) rows 0 c.args.heads.now
-              c.loop-r.r h (sym c.flag_at.ensures ∙ w.if-flag_at.false),
-        ),
-      )
-    ]
 
 pub returns : goal.returns
 returns c =
-    omega (arith, count_end (valued_by c.args.has.now) rows 0 c.args.heads.now c.loop-r.r (omega arith))
+    count_from_yields_List c.filter.result _ c.count.ensures.ran
+    (YieldsList-from_filter _ (valued_by c.args.s.now) (YieldsList-from_slice c.args.s.now.heads cc) c.filter.ensures.closure (λ x b q k. search (rules, tests)))
+    ∙ ap length (those_of_list (valued_by c.args.s.now) c.args.s.now.heads)

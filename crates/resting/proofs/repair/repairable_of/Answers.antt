@@ -1,101 +1,84 @@
--- `repairable_of` meets its contract.
-use mathlib.Core.Path.{sym, ap, ◌∙◌}
-use borrow.Author.Tests.{le-leb, lt-leb, le-ltb, lt-ltb}
-use Rattle.rules.specs.Chains.{Walk}
-use Rattle.resting.specs.Row.{repairable_fails, repairable_last}
+-- `repairable_of` meets its contract: its tests are the definition's, in their order.
+use mathlib.Core.Path.{◌≡◌, ◌∙◌}
+use mathlib.Core.Bool.{◌&&◌}
+use lib.Dec.{leb, ltb}
+use native.Mathlib.Omega.{arith}
+use borrow.Author.Tests.{le-leb, lt-leb}
+use Rattle.rules.specs.Lists.{all, each_or, is_zero, nonzero}
+use Rattle.rules.specs.Store.{slots_in_form, active_in_form}
+use Rattle.resting.specs.VersionTurns.{chain_at}
+use Rattle.resting.specs.Row.{repairable_says}
 use Rattle.resting.proofs.repair.repairable_of.Goals as goal
+use Rattle.resting.proofs.repair.repairable_of.Goals.{then-s-ge1, else-s-ge1, then-slots_in_form, else-slots_in_form}
+use Rattle.resting.proofs.repair.repairable_of.Goals.{then-active_in_form, else-active_in_form, then-xmins_below, else-xmins_below}
+use Rattle.resting.proofs.repair.repairable_of.Goals.{then-s, else-s, then-apart, else-apart, then-used_if_marked, else-used_if_marked}
 
-pub returns-then-not-apart : goal.returns-then-not-apart
-returns-then-not-apart c = record {
-  answer = repairable_fails _ _ _ _ _ _ _ _ _ _ _ _ (ap (λ (w : Walk). w.seen) c.walk_all-apart.ensures) 5
-      (sym (ap (λ (w : Walk). w.ok) c.walk_all-apart.ensures) ∙ c.if-not-apart.true);
-  marks = ap (λ (w : Walk). w.seen) c.walk_all-apart.ensures;
-}
+pub returns-then-chains_ok-clause-answer : goal.returns-then-chains_ok-clause-answer
+returns-then-chains_ok-clause-answer c =
+    let S = c.args.s.now in
+    let seen = c.walk_all-apart.new.seen in
+    let first : c.if-s-ge1.value ≡ (leb 1 S.clock && slots_in_form S) = elim c.if-s-ge1.branch [
+      | then-s-ge1 w ↦ rw (le-leb 1 S.clock w.if-s-ge1.true) (w.value-is ∙ w.slots_in_form.ensures)
+      | else-s-ge1 w ↦ rw (lt-leb 1 S.clock w.if-s-ge1.false) (w.value-is ∙ lt-leb 1 S.clock w.if-s-ge1.false)
+    ] in
+    let second : c.if-slots_in_form.value ≡ (c.if-s-ge1.value && active_in_form S.active S.clock) = elim c.if-slots_in_form.branch [
+      | then-slots_in_form w ↦ rw w.if-slots_in_form.true (w.value-is ∙ w.active_in_form.ensures)
+      | else-slots_in_form w ↦ rw w.if-slots_in_form.false (w.value-is ∙ w.if-slots_in_form.false)
+    ] in
+    let third : c.if-active_in_form.value ≡ (c.if-slots_in_form.value && all (λ t. ltb t S.clock) S.xmin) = elim c.if-active_in_form.branch [
+      | then-active_in_form w ↦ rw w.if-active_in_form.true (w.value-is ∙ w.xmins_below.ensures)
+      | else-active_in_form w ↦ rw w.if-active_in_form.false (w.value-is ∙ w.if-active_in_form.false)
+    ] in
+    let fourth : c.if-xmins_below.value ≡ (c.if-active_in_form.value && ltb S.doomed S.clock) = elim c.if-xmins_below.branch [
+      | then-xmins_below w ↦ rw w.if-xmins_below.true w.value-is
+      | else-xmins_below w ↦ rw w.if-xmins_below.false (w.value-is ∙ w.if-xmins_below.false)
+    ] in
+    let fifth : c.if-s.value ≡ (c.if-xmins_below.value && c.walk_all-apart.result) = elim c.if-s.branch [
+      | then-s w ↦ rw w.if-s.true w.value-is
+      | else-s w ↦ rw w.if-s.false (w.value-is ∙ w.if-s.false)
+    ] in
+    let sixth : c.if-apart.value ≡ (c.if-s.value && each_or is_zero nonzero seen S.xmin) = elim c.if-apart.branch [
+      | then-apart w ↦ rw w.if-apart.true (w.value-is ∙ w.used_if_marked.ensures)
+      | else-apart w ↦ rw w.if-apart.false (w.value-is ∙ w.if-apart.false)
+    ] in
+    let seventh : c.if-used_if_marked.value ≡ (c.if-apart.value && all (chain_at S) S.heads) = elim c.if-used_if_marked.branch [
+      | then-used_if_marked w ↦ rw w.if-used_if_marked.true (w.value-is ∙ w.chains_ok.ensures)
+      | else-used_if_marked w ↦ rw w.if-used_if_marked.false (w.value-is ∙ w.if-used_if_marked.false)
+    ] in
+    repairable_says S (omega arith) (omega arith) seen _ c.walk_all-apart.ensures c.if-used_if_marked.value _
+    (rw (seventh, sixth, fifth, fourth, third, second, first)) (rw c.if-chains_ok.true c.off_slots_ok.ensures)
 
-pub returns-then-clock-lt1 : goal.returns-then-clock-lt1
-returns-then-clock-lt1 c = record {
-  answer = repairable_fails _ _ _ _ _ _ _ _ _ _ _ _ (ap (λ (w : Walk). w.seen) c.walk_all-apart.ensures) 0 (lt-leb _ _ c.if-clock-lt1.true);
-  marks = ap (λ (w : Walk). w.seen) c.walk_all-apart.ensures;
-}
-
-pub returns-then-clock-doomed : goal.returns-then-clock-doomed
-returns-then-clock-doomed c = record {
-  answer = repairable_fails _ _ _ _ _ _ _ _ _ _ _ _ (ap (λ (w : Walk). w.seen) c.walk_all-apart.ensures) 4 (le-ltb _ _ c.if-clock-doomed.true);
-  marks = ap (λ (w : Walk). w.seen) c.walk_all-apart.ensures;
-}
-
-pub returns-then-not-slots_in_form : goal.returns-then-not-slots_in_form
-returns-then-not-slots_in_form c = record {
-  answer = repairable_fails _ _ _ _ _ _ _ _ _ _ _ _ (ap (λ (w : Walk). w.seen) c.walk_all-apart.ensures) 1
-      (sym c.slots_in_form.ensures ∙ c.if-not-slots_in_form.true);
-  marks = ap (λ (w : Walk). w.seen) c.walk_all-apart.ensures;
-}
-
-pub returns-then-not-active_in_form : goal.returns-then-not-active_in_form
-returns-then-not-active_in_form c = record {
-  answer = repairable_fails _ _ _ _ _ _ _ _ _ _ _ _ (ap (λ (w : Walk). w.seen) c.walk_all-apart.ensures)
-      2 (sym c.active_in_form.ensures ∙ c.if-not-active_in_form.true);
-  marks = ap (λ (w : Walk). w.seen) c.walk_all-apart.ensures;
-}
-
-pub returns-then-not-xmins_below : goal.returns-then-not-xmins_below
-returns-then-not-xmins_below c = record {
-  answer = repairable_fails _ _ _ _ _ _ _ _ _ _ _ _
-      (ap (λ (w : Walk). w.seen) c.walk_all-apart.ensures) 3
-      (sym c.xmins_below.ensures ∙ c.if-not-xmins_below.true);
-  marks = ap (λ (w : Walk). w.seen) c.walk_all-apart.ensures;
-}
-
-pub returns-then-not-used_if_marked : goal.returns-then-not-used_if_marked
-returns-then-not-used_if_marked c = record {
-  answer = repairable_fails _ _ _ _ _ _ _ _ _ _ _ _
-      (ap (λ (w : Walk). w.seen) c.walk_all-apart.ensures)
-      6 (sym c.used_if_marked.ensures ∙ c.if-not-used_if_marked.true);
-  marks = ap (λ (w : Walk). w.seen) c.walk_all-apart.ensures;
-}
-
-pub returns-then-not-chains_ok : goal.returns-then-not-chains_ok
-returns-then-not-chains_ok c = record {
-  answer = repairable_fails _ _ _ _ _ _ _ _ _ _ _ _
-      (ap (λ (w : Walk). w.seen)
-      c.walk_all-apart.ensures) 7
-      (sym c.chains_ok.ensures ∙ c.if-not-chains_ok.true);
-  marks = ap (λ (w : Walk). w.seen)
-      c.walk_all-apart.ensures;
-}
-
-pub returns : goal.returns
-returns c = record {
-  answer = repairable_last _ _ _ _ _ _ _ _ _ _ _ _
-      (ap (λ (w : Walk). w.seen)
-      c.walk_all-apart.ensures)
-      _ (
-        le-leb _ _ c.if-clock-lt1.false,
-        (
-          sym c.slots_in_form.ensures
-              ∙ c.if-not-slots_in_form.false,
-          (
-            sym c.active_in_form.ensures
-                ∙ c.if-not-active_in_form.false,
-            (
-              sym c.xmins_below.ensures
-                  ∙ c.if-not-xmins_below.false,
-              (
-                lt-ltb _ _ c.if-clock-doomed.false,
-                (
-                  sym (ap (λ (w : Walk). w.ok)
-                      c.walk_all-apart.ensures)
-                      ∙ c.if-not-apart.false,
-                  (
-                    sym c.used_if_marked.ensures ∙ c.if-not-used_if_marked.false,
-                    (sym c.chains_ok.ensures ∙ c.if-not-chains_ok.false, tt),
-                  ),
-                ),
-              ),
-            ),
-          ),
-        ),
-      ) c.off_slots_ok.ensures;
-  marks = ap (λ (w : Walk). w.seen)
-      c.walk_all-apart.ensures;
-}
+pub returns-else-chains_ok-clause-answer : goal.returns-else-chains_ok-clause-answer
+returns-else-chains_ok-clause-answer c =
+    let S = c.args.s.now in
+    let seen = c.walk_all-apart.new.seen in
+    let first : c.if-s-ge1.value ≡ (leb 1 S.clock && slots_in_form S) = elim c.if-s-ge1.branch [
+      | then-s-ge1 w ↦ rw (le-leb 1 S.clock w.if-s-ge1.true) (w.value-is ∙ w.slots_in_form.ensures)
+      | else-s-ge1 w ↦ rw (lt-leb 1 S.clock w.if-s-ge1.false) (w.value-is ∙ lt-leb 1 S.clock w.if-s-ge1.false)
+    ] in
+    let second : c.if-slots_in_form.value ≡ (c.if-s-ge1.value && active_in_form S.active S.clock) = elim c.if-slots_in_form.branch [
+      | then-slots_in_form w ↦ rw w.if-slots_in_form.true (w.value-is ∙ w.active_in_form.ensures)
+      | else-slots_in_form w ↦ rw w.if-slots_in_form.false (w.value-is ∙ w.if-slots_in_form.false)
+    ] in
+    let third : c.if-active_in_form.value ≡ (c.if-slots_in_form.value && all (λ t. ltb t S.clock) S.xmin) = elim c.if-active_in_form.branch [
+      | then-active_in_form w ↦ rw w.if-active_in_form.true (w.value-is ∙ w.xmins_below.ensures)
+      | else-active_in_form w ↦ rw w.if-active_in_form.false (w.value-is ∙ w.if-active_in_form.false)
+    ] in
+    let fourth : c.if-xmins_below.value ≡ (c.if-active_in_form.value && ltb S.doomed S.clock) = elim c.if-xmins_below.branch [
+      | then-xmins_below w ↦ rw w.if-xmins_below.true w.value-is
+      | else-xmins_below w ↦ rw w.if-xmins_below.false (w.value-is ∙ w.if-xmins_below.false)
+    ] in
+    let fifth : c.if-s.value ≡ (c.if-xmins_below.value && c.walk_all-apart.result) = elim c.if-s.branch [
+      | then-s w ↦ rw w.if-s.true w.value-is
+      | else-s w ↦ rw w.if-s.false (w.value-is ∙ w.if-s.false)
+    ] in
+    let sixth : c.if-apart.value ≡ (c.if-s.value && each_or is_zero nonzero seen S.xmin) = elim c.if-apart.branch [
+      | then-apart w ↦ rw w.if-apart.true (w.value-is ∙ w.used_if_marked.ensures)
+      | else-apart w ↦ rw w.if-apart.false (w.value-is ∙ w.if-apart.false)
+    ] in
+    let seventh : c.if-used_if_marked.value ≡ (c.if-apart.value && all (chain_at S) S.heads) = elim c.if-used_if_marked.branch [
+      | then-used_if_marked w ↦ rw w.if-used_if_marked.true (w.value-is ∙ w.chains_ok.ensures)
+      | else-used_if_marked w ↦ rw w.if-used_if_marked.false (w.value-is ∙ w.if-used_if_marked.false)
+    ] in
+    repairable_says S (omega arith) (omega arith) seen _ c.walk_all-apart.ensures c.if-used_if_marked.value _
+    (rw (seventh, sixth, fifth, fourth, third, second, first)) (rw c.if-chains_ok.false)

@@ -1,64 +1,60 @@
--- `slot_in_form` meets its contract: a case for each of its ends.
-use mathlib.Core.Path.{sym}
-use mathlib.Core.Bool.{and-true}
-use lib.Dec.{leb}
-use Rattle.records.specs.Limits.{last_minute}
-use Rattle.rules.specs.Lists.{every}
-use Rattle.fields.specs.Facts.{zero_yes, zero_no, nonzero_yes, nonzero_no}
-use Rattle.resting.specs.SlotForm.{zero_minute}
+-- `slot_in_form` meets its contract.
+use mathlib.Core.Path.{◌≡◌, ◌∙◌}
+use mathlib.Core.Bool.{false, not, ◌&&◌}
+use lib.ListN.{get_or}
+use borrow.Author.Tests.{eq-eqb, ne_eqb}
+use Rattle.rules.specs.Lists.{is_zero}
+use Rattle.resting.specs.SlotForm.{form_keyed, form_absent, form_free}
 use Rattle.resting.proofs.slots.slot_in_form.Goals as goal
+use Rattle.resting.proofs.slots.slot_in_form.Goals.{then-s-i-eq0, else-s-i-eq0, then-s-i-eq0-2, else-s-i-eq0-2}
+use Rattle.resting.proofs.slots.slot_in_form.Goals.{then-not-s-i, else-not-s-i, then-not-s-i-2, else-not-s-i-2}
 
-pub returns-then-has : goal.returns-then-has
-unfolding every
-returns-then-has c = rw (nonzero_yes c.if-xmin-ne0.true, zero_no c.if-xmin-ne0.true, c.if-has.true) (sym (and-true _))
+pub returns-then-s-i : goal.returns-then-s-i
+returns-then-s-i c = form_keyed c.args.s.now c.args.i c.if-s-i-ne0.true c.if-s-i.true
 
-pub returns-then-xmin-ne0 : goal.returns-then-xmin-ne0
-unfolding every
-returns-then-xmin-ne0 c =
-    rw (nonzero_yes c.if-xmin-ne0.true, zero_no c.if-xmin-ne0.true, c.if-has.false, and-true (leb _ last_minute))
-    (zero_minute c.args.key)
+pub returns-else-s-i : goal.returns-else-s-i
+returns-else-s-i c = form_absent c.args.s.now c.args.i c.if-s-i-ne0.true c.if-s-i.false
 
-pub returns-then-xmax-ne0 : goal.returns-then-xmax-ne0
-unfolding every
-returns-then-xmax-ne0 c = rw (nonzero_no c.if-xmin-ne0.false, zero_no c.if-xmax-ne0.true)
+pub returns-then-s-i-eq0-3 : goal.returns-then-s-i-eq0-3
+returns-then-s-i-eq0-3 c =
+    let S = c.args.s.now in
+    let i = c.args.i in
+    let first : c.if-s-i-eq0.value ≡ (is_zero (get_or S.xmax i 0) && is_zero (get_or S.next i 0)) = elim c.if-s-i-eq0.branch [
+      | then-s-i-eq0 w ↦ rw (eq-eqb _ _ w.if-s-i-eq0.true) w.value-is
+      | else-s-i-eq0 w ↦ rw (ne_eqb _ _ w.if-s-i-eq0.false) (w.value-is ∙ ne_eqb _ _ w.if-s-i-eq0.false)
+    ] in
+    let second : c.if-s-i-eq0-2.value ≡ (c.if-s-i-eq0.value && not (get_or S.has i false)) = elim c.if-s-i-eq0-2.branch [
+      | then-s-i-eq0-2 w ↦ rw w.if-s-i-eq0-2.true w.value-is
+      | else-s-i-eq0-2 w ↦ rw w.if-s-i-eq0-2.false (w.value-is ∙ w.if-s-i-eq0-2.false)
+    ] in
+    let third : c.if-not-s-i.value ≡ (c.if-s-i-eq0-2.value && not (get_or S.locked i false)) = elim c.if-not-s-i.branch [
+      | then-not-s-i w ↦ rw w.if-not-s-i.true w.value-is
+      | else-not-s-i w ↦ rw w.if-not-s-i.false (w.value-is ∙ w.if-not-s-i.false)
+    ] in
+    let fourth : c.if-not-s-i-2.value ≡ (c.if-not-s-i.value && is_zero (get_or S.owner i 0)) = elim c.if-not-s-i-2.branch [
+      | then-not-s-i-2 w ↦ rw w.if-not-s-i-2.true w.value-is
+      | else-not-s-i-2 w ↦ rw w.if-not-s-i-2.false (w.value-is ∙ w.if-not-s-i-2.false)
+    ] in
+    rw (← form_free S i c.if-s-i-ne0.false, ← first, ← second, ← third, ← fourth, c.if-s-i-eq0-3.true)
 
-pub returns-then-next-ne0 : goal.returns-then-next-ne0
-unfolding every
-returns-then-next-ne0 c = rw (nonzero_no c.if-xmin-ne0.false, zero_yes c.if-xmax-ne0.false, zero_no c.if-next-ne0.true)
-
-pub returns-then-has-2 : goal.returns-then-has-2
-unfolding every
-returns-then-has-2 c = rw (nonzero_no c.if-xmin-ne0.false, zero_yes c.if-xmax-ne0.false, zero_yes c.if-next-ne0.false, c.if-has-2.true)
-
-pub returns-then-locked : goal.returns-then-locked
-unfolding every
-returns-then-locked c = rw (
-  nonzero_no c.if-xmin-ne0.false,
-  zero_yes c.if-xmax-ne0.false,
-  zero_yes c.if-next-ne0.false,
-  c.if-has-2.false,
-  c.if-locked.true,
-)
-
-pub returns-then-owner-ne0 : goal.returns-then-owner-ne0
-unfolding every
-returns-then-owner-ne0 c = rw (
-  nonzero_no c.if-xmin-ne0.false,
-  zero_yes c.if-xmax-ne0.false,
-  zero_yes c.if-next-ne0.false,
-  c.if-has-2.false,
-  c.if-locked.false,
-  zero_no c.if-owner-ne0.true,
-)
-
-pub returns : goal.returns
-unfolding every
-returns c = rw (
-  nonzero_no c.if-xmin-ne0.false,
-  zero_yes c.if-xmax-ne0.false,
-  zero_yes c.if-next-ne0.false,
-  c.if-has-2.false,
-  c.if-locked.false,
-  zero_yes c.if-owner-ne0.false,
-  zero_yes c.if-xmin-ne0.false,
-) (sym (and-true _))
+pub returns-else-s-i-eq0-3 : goal.returns-else-s-i-eq0-3
+returns-else-s-i-eq0-3 c =
+    let S = c.args.s.now in
+    let i = c.args.i in
+    let first : c.if-s-i-eq0.value ≡ (is_zero (get_or S.xmax i 0) && is_zero (get_or S.next i 0)) = elim c.if-s-i-eq0.branch [
+      | then-s-i-eq0 w ↦ rw (eq-eqb _ _ w.if-s-i-eq0.true) w.value-is
+      | else-s-i-eq0 w ↦ rw (ne_eqb _ _ w.if-s-i-eq0.false) (w.value-is ∙ ne_eqb _ _ w.if-s-i-eq0.false)
+    ] in
+    let second : c.if-s-i-eq0-2.value ≡ (c.if-s-i-eq0.value && not (get_or S.has i false)) = elim c.if-s-i-eq0-2.branch [
+      | then-s-i-eq0-2 w ↦ rw w.if-s-i-eq0-2.true w.value-is
+      | else-s-i-eq0-2 w ↦ rw w.if-s-i-eq0-2.false (w.value-is ∙ w.if-s-i-eq0-2.false)
+    ] in
+    let third : c.if-not-s-i.value ≡ (c.if-s-i-eq0-2.value && not (get_or S.locked i false)) = elim c.if-not-s-i.branch [
+      | then-not-s-i w ↦ rw w.if-not-s-i.true w.value-is
+      | else-not-s-i w ↦ rw w.if-not-s-i.false (w.value-is ∙ w.if-not-s-i.false)
+    ] in
+    let fourth : c.if-not-s-i-2.value ≡ (c.if-not-s-i.value && is_zero (get_or S.owner i 0)) = elim c.if-not-s-i-2.branch [
+      | then-not-s-i-2 w ↦ rw w.if-not-s-i-2.true w.value-is
+      | else-not-s-i-2 w ↦ rw w.if-not-s-i-2.false (w.value-is ∙ w.if-not-s-i-2.false)
+    ] in
+    rw (← form_free S i c.if-s-i-ne0.false, ← first, ← second, ← third, ← fourth, c.if-s-i-eq0-3.false)

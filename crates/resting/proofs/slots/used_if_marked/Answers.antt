@@ -1,31 +1,17 @@
--- `used_if_marked` meets its contract: what is left from place i on decides as the whole does.
+-- `used_if_marked` meets its contract.
+use mathlib.Core.Path.{◌∙◌}
+use mathlib.Core.Bool.{◌||◌}
 use native.Mathlib.Omega.{arith}
 use borrow.Author.Rules.{rules}
-use borrow.Author.Tests.{eq-eqb, ne_eqb}
-use Rattle.resting.specs.PairScan.{each_left, each_first, each_second, each_fail, each_end}
-use Rattle.fields.specs.Facts.{nonzero_yes, nonzero_no}
+use Rattle.std.proofs.Common.{tests}
+use Rattle.std.proofs.lemmas.Iterator.{YieldsList-from_slice, YieldsList-from_zip}
+use Rattle.std.proofs.lemmas.Iterator.Search.{all_from_yields_List}
+use Rattle.rules.specs.Lists.{is_zero, nonzero}
+use Rattle.resting.specs.SlotForm.{pairs_are}
 use Rattle.resting.proofs.slots.used_if_marked.Goals as goal
-use Rattle.resting.proofs.slots.used_if_marked.Goals.{else-xmin-i-eq0-via-then-xmin-i-eq0+else-seen-i-ne0, else-xmin-i-eq0-via-else-xmin-i-eq0}
-
-pub loop-i-init : goal.loop-i-init
-unfolding each_left
-loop-i-init c = search rules
-
-pub returns-then-seen-i-ne0 : goal.returns-then-seen-i-ne0
-returns-then-seen-i-ne0 c =
-    each_fail _ _ _ _ _ _ _ _ _ c.loop-i.invariant.1 (omega arith) (ne_eqb _ _ c.if-seen-i-ne0.true)
-    (nonzero_no c.if-xmin-i-eq0.true)
-
-pub loop-i-preserved : goal.loop-i-preserved
-loop-i-preserved c = (
-  omega arith,
-  elim c.else-xmin-i-eq0.branch [
-    | else-xmin-i-eq0-via-then-xmin-i-eq0+else-seen-i-ne0 w ↦
-        each_first _ _ _ _ _ _ _ _ _ c.loop-i.invariant.1 (omega arith) (eq-eqb _ _ w.if-seen-i-ne0.false)
-    | else-xmin-i-eq0-via-else-xmin-i-eq0 w ↦
-        each_second _ _ _ _ _ _ _ _ _ c.loop-i.invariant.1 (omega arith) (nonzero_yes w.if-xmin-i-eq0.false)
-  ],
-)
 
 pub returns : goal.returns
-returns c = each_end _ _ _ _ _ _ _ _ _ c.loop-i.invariant.1 (omega arith)
+returns c =
+    all_from_yields_List (λ p. is_zero p.0 || nonzero p.1) c.all.new.self _ _ c.all.ensures.ran
+    (YieldsList-from_zip (YieldsList-from_slice c.args.seen.now cc) (YieldsList-from_slice c.args.s.now.xmin cc)) (λ x b q k. search (rules, tests))
+    ∙ pairs_are is_zero nonzero c.args.seen.now c.args.s.now.xmin (omega arith)
