@@ -4,17 +4,17 @@ use Rattle.std.proofs.Common.{sym, append_assoc, append-nil, add-one, arith, eq-
 use Rattle.std.proofs.Math.Seq.{drop-cons, take_all, take-suc-set, drop-set-lt}
 use Rattle.rules.specs.Recovery.{trim_head}
 
--- the ways a head h comes out; i is its place, t its xmin
+-- the ways a head h comes out; t is its xmin, w the next pointer
 module _ (fin : ℕ → Bool) (xmin next : List ℕ) (h : ℕ) where
-  pub trim_none : h ≡ 0 → 0 ≡ trim_head fin xmin next h
-  trim_none e = rw (eq-eqb h 0 e)
+  pub trim_none : h ≡ 0 → h ≡ trim_head fin xmin next h
+  trim_none e = rw (eq-eqb h 0 e, e)
 
-  module _ (i t : ℕ) (at : i ≡ h) (e : t ≡ get_or xmin i 0) (n : h ≡ 0 → ⊥) where
+  module _ (t : ℕ) (e : t ≡ get_or xmin h 0) (n : h ≡ 0 → ⊥) where
     pub trim_stay : fin t ≡ true → h ≡ trim_head fin xmin next h
-    trim_stay d = let q : fin (get_or xmin h 0) ≡ true = rw (← at, ← e) d in rw (ne_eqb h 0 n, q)
+    trim_stay d = rw (ne_eqb h 0 n, ← e, d)
 
-    pub trim_next : (w : ℕ) → fin t ≡ false → w ≡ get_or next i 0 → w ≡ trim_head fin xmin next h
-    trim_next w d o = let q : fin (get_or xmin h 0) ≡ false = rw (← at, ← e) d in rw (ne_eqb h 0 n, q) (rw at at o)
+    pub trim_next : (w : ℕ) → fin t ≡ false → w ≡ get_or next h 0 → w ≡ trim_head fin xmin next h
+    trim_next w d o = rw (ne_eqb h 0 n, ← e, d) o
 
 -- the places before i as they are, the rest to be changed by f; shut, so that a law finds its parts
 unfoldable pub map_left : (ℕ → ℕ) → List ℕ → ℕ → List ℕ

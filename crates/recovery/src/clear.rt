@@ -6,20 +6,16 @@ ghost use Rattle.rules.specs.Recovery.{clear};
 
 use fields::lent::place;
 use fields::txids::is_finished;
+use records::{RowId, SlotPtr, Store};
 
 // Heads past the last slot have no xmax.
-pub fn clear_heads<'a>(xmax: &mut [u64], heads: &'a [u32], active: &'a [u64], doomed: u64)
-    ensures { xmax.new ≡ clear (finished active.now doomed) heads.now xmax.old }
+pub fn clear_heads(xmax: &mut [u64; SlotPtr::PLACES], heads: &[u32; RowId::ROWS], s: &Store)
+    ensures { xmax.new ≡ clear (finished s.now.active s.now.doomed) heads.now xmax.old }
 {
-    let mut r: usize = 0;
-    while r < heads.len() {
-        let i = place(heads[r]);
-        r += 1;
-        if i < xmax.len() {
-            let ended = is_finished(active, doomed, xmax[i]);
-            if !ended {
-                xmax[i] = 0;
-            }
+    for head in heads {
+        let i = place(*head);
+        if i < SlotPtr::PLACES && !is_finished(&s.active, s.doomed, xmax[i]) {
+            xmax[i] = 0;
         }
     }
 }

@@ -7,13 +7,12 @@ ghost use Rattle.rules.specs.Recovery.{recovered, recover};
 
 mod clear;
 mod keep;
-mod reads;
 mod rebuild;
 mod trim;
 
 use clear::clear_heads;
 use fields::walk::walk_all;
-use keep::keep_all;
+use keep::keep;
 use rebuild::rebuild;
 use records::{Fate, Mended, Refusal, RowId, SlotPtr, Store, Txid};
 use resting::repair::repairable;
@@ -23,19 +22,22 @@ use trim::trim_heads;
 fn recovered(s: Store) -> Store
     ensures { result ≡ recovered s }
 {
-    let mut heads = s.heads;
-    trim_heads(&mut heads, &s.xmin, &s.next, &s.active, s.doomed);
+    let heads = trim_heads(&s);
     let mut seen = [0; SlotPtr::PLACES];
     walk_all(&heads, &s.next, &mut seen);
     let mut postings = [0; Store::POSTINGS];
-    let posting_count = rebuild(&mut postings, &heads, &s.key, &s.has);
+    let posting_count = rebuild(&mut postings, &heads, &s);
     let mut xmax = s.xmax;
-    clear_heads(&mut xmax, &heads, &s.active, s.doomed);
+    clear_heads(&mut xmax, &heads, &s);
+    keep(&mut xmax, &seen, 0);
     let mut xmin = s.xmin;
+    keep(&mut xmin, &seen, 0);
     let mut next = s.next;
+    keep(&mut next, &seen, 0);
     let mut key = s.key;
+    keep(&mut key, &seen, 0);
     let mut has = s.has;
-    keep_all(&mut xmin, &mut xmax, &mut next, &mut key, &mut has, &seen);
+    keep(&mut has, &seen, false);
     let stamps = s.stamps;
     Store {
         heads,

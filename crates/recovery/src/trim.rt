@@ -4,39 +4,29 @@ ghost use Rattle.std.specs.Prelude.{◌≡◌, map};
 ghost use Rattle.rules.specs.Admitted.{finished};
 ghost use Rattle.rules.specs.Recovery.{trim_head};
 
-use super::reads::{txid_at, word_at};
-use fields::lent::place;
+use fields::lent::{at, place};
 use fields::txids::is_finished;
+use records::{RowId, Store};
 
 // The head that a row is left with: the slot behind an unfinished one.
-fn trimmed<'a>(h: u32, xmin: &'a [u64], next: &'a [u32], active: &'a [u64], doomed: u64) -> u32
-    ensures { result ≡ trim_head (finished active.now doomed) xmin.now next.now h }
+fn trimmed(s: &Store, h: u32) -> u32
+    ensures { result ≡ trim_head (finished s.now.active s.now.doomed) s.now.xmin s.now.next h }
 {
-    if h == 0 {
-        return 0;
-    }
     let i = place(h);
-    let t = txid_at(xmin, i);
-    if is_finished(active, doomed, t) {
+    if h == 0 || is_finished(&s.active, s.doomed, at(&s.xmin, i, 0)) {
         h
     } else {
-        word_at(next, i)
+        at(&s.next, i, 0)
     }
 }
 
 // The same for every row.
-pub fn trim_heads<'a>(
-    heads: &mut [u32],
-    xmin: &'a [u64],
-    next: &'a [u32],
-    active: &'a [u64],
-    doomed: u64,
-)
-    ensures { heads.new ≡ map (trim_head (finished active.now doomed) xmin.now next.now) heads.old }
+pub fn trim_heads(s: &Store) -> [u32; RowId::ROWS]
+    ensures { result ≡ map (trim_head (finished s.now.active s.now.doomed) s.now.xmin s.now.next) s.now.heads }
 {
-    let mut r: usize = 0;
-    while r < heads.len() {
-        heads[r] = trimmed(heads[r], xmin, next, active, doomed);
-        r += 1;
+    let mut heads = s.heads;
+    for r in 0..RowId::ROWS {
+        heads[r] = trimmed(s, heads[r]);
     }
+    heads
 }

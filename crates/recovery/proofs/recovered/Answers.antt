@@ -7,8 +7,8 @@ pub returns : goal.returns
 returns c =
     let z = sized c.args.s c.well_formed.0 in
     whole c.args.s z.heads z.next
-    c.trim_heads.ensures
+    c.trim_heads-heads.ensures
     c.walk_all.ensures
     c.rebuild-posting_count.ensures
     c.clear_heads.ensures
-    c.keep_all.ensures.xmin c.keep_all.ensures.xmax c.keep_all.ensures.next c.keep_all.ensures.key c.keep_all.ensures.has
+    c.keep-2.ensures c.keep.ensures c.keep-3.ensures c.keep-4.ensures c.keep-5.ensures
