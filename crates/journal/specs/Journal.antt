@@ -1,56 +1,27 @@
--- The journal: its words as puts, what pushing a put does, and what it holds.
-use Rattle.std.specs.Prelude.{◌≡◌, Bool, true, cond, ◌&&◌, ◌||◌, List, [], ◌∷◌, ◌++◌, ℕ, zero, suc}
-use Rattle.std.specs.Prelude.{◌+◌, ◌*◌, ◌/◌, ◌%◌, ◌≤◌, ◌<◌, length, get_or, set, eqb, ltb, leb}
-use Rattle.records.specs.Limits.{key_end}
-pub use Rattle.records.specs.Limits.{put_limit, place_base}
-use Rattle.rules.specs.Puts.{Put, put, k_head, k_next, k_key, last_kind}
+-- The journal: what its puts mean. As contracts see it, it is the list of what its puts mean.
+pub use Rattle.records.specs.Limits.{put_limit}
+use Rattle.rules.specs.Puts.{Put, put_stripe, put_partition, put_insert, put_remove, put_xmax, put_head, put_free, put_drop, put_stamp}
+use Rattle.rules.specs.Puts.{put_poison, put_doom, put_enter, put_clock, put_xmin, put_next, put_key, put_lock}
+pub use Rattle.journal.specs.declared.Put.{Put as Planned}
+pub use Rattle.journal.specs.declared.Put.TheVariants.{Stripe, Partition, Insert, Remove, Xmax, Head, Free, Drop, Stamp, Poison, Doom, Enter, Clock}
+pub use Rattle.journal.specs.declared.Put.TheVariants.{Xmin, Next, Key, Lock}
 
--- the limits of the code's `Journal`: put_limit and place_base follow from the store's
-abbrev pub word_limit : ℕ
-word_limit = put_limit + put_limit
-
--- heads, next pointers and keys have 32 bits: of a larger value they take the low ones
-abbrev pub narrow : ℕ → Bool
-narrow k = eqb k k_head || (eqb k k_next || eqb k k_key)
-
-abbrev pub low : ℕ → ℕ → ℕ
-low k v = cond (narrow k) (v % key_end) v
-
--- a put from its two words
-abbrev pub put_of : ℕ → ℕ → Put
-put_of w v = put (w / place_base) (w % place_base) (low (w / place_base) v)
-
-abbrev pub put_at : List ℕ → ℕ → Put
-put_at j i = put_of (get_or j (i + i) 0) (get_or j (i + i + 1) 0)
-
--- the first n puts
-unfoldable pub puts : List ℕ → ℕ → List Put
-puts j zero = []
-puts j (suc i) = puts j i ++ put_at j i ∷ []
-
--- the journal takes a put: it has room, and the kind and the place are within their ranges
-abbrev pub takes : ℕ → Put → Bool
-takes n p = ltb n put_limit && (leb p.kind last_kind && ltb p.at place_base)
-
-unfoldable pub pushed : List ℕ → ℕ → Put → List ℕ
-pushed j n p = cond (takes n p) (set (set j (n + n) (p.kind * place_base + p.at)) (n + n + 1) p.val) j
-
-unfoldable pub counted : ℕ → Put → ℕ
-counted n p = cond (takes n p) (n + 1) n
-
--- what pushing leaves: the words and their number; the journal is as long as its type says
-pub record Pushed (j : List ℕ) (n : ℕ) (p : Put) (after : List ℕ) (r : ℕ) : Type 0 where
-  pub words : after ≡ pushed j n p
-  pub count : r ≡ counted n p
-  pub long : takes n p ≡ true → length j ≡ word_limit
-
--- the journal keeps a put as it is: its ranges hold, and a 32-bit field's value has 32 bits
-pub record Kept (p : Put) : Type 0 where
-  pub kind : p.kind ≤ last_kind
-  pub at : p.at < place_base
-  pub val : low p.kind p.val ≡ p.val
-
--- the journal holds these puts
-pub record Holds (j : List ℕ) (n : ℕ) (ps : List Put) : Type 0 where
-  pub room : n ≤ put_limit
-  pub are : puts j n ≡ ps
+-- the kind, the place and the number of each case
+abbrev pub meant : Planned → Put
+meant (Stripe i t) = put_stripe i t.0
+meant (Partition i t) = put_partition i t.0
+meant (Insert c) = put_insert c
+meant (Remove c) = put_remove c
+meant (Xmax p t) = put_xmax p.0 t.0
+meant (Head r p) = put_head r.0 p.0
+meant (Free p) = put_free p.0
+meant (Drop t) = put_drop t.0
+meant (Stamp i t) = put_stamp i t.0
+meant Poison = put_poison
+meant (Doom t) = put_doom t.0
+meant (Enter t) = put_enter t.0
+meant (Clock t) = put_clock t
+meant (Xmin p t) = put_xmin p.0 t.0
+meant (Next p q) = put_next p.0 q.0
+meant (Key p k) = put_key p.0 k
+meant (Lock p t) = put_lock p.0 t.0

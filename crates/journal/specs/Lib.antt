@@ -1,8 +1,8 @@
 -- The definitions that the contracts cite.
 pub mod Journal
--- Laws about them.
-pub mod Holds
 pub mod Adds
+-- Laws about them.
+pub mod Held
 pub mod Pushing
 pub mod AtMarks
 pub mod Applied

@@ -1,19 +1,94 @@
-// The journal: the puts that a call plans, two words each in a lent array, and the one pass that applies them to a store.
+// The journal: the puts that a call plans, in their order, and the one pass that applies them to a store.
 
 #![tactic(auto)]
 
-ghost use Rattle.std.specs.Prelude.{◌≡◌, ◌+◌, ◌<◌, min, length, set};
-ghost use Rattle.rules.specs.Puts.{put, apply_all};
-ghost use Rattle.journal.specs.Journal.{Pushed, puts, put_limit};
+ghost use Rattle.std.specs.Prelude.{◌≡◌, ◌≤◌, [], ◌∷◌, length, map, take};
+ghost use Rattle.rules.specs.Puts.{apply, apply_all};
+ghost use Rattle.journal.specs.Journal.{meant, put_limit};
+ghost use Rattle.journal.specs.Adds.{Adds};
 
 pub mod at_marks;
 mod puts;
 
-use fields::lent::clipped;
-use records::{RowId, SlotPtr, Store, Tx};
+use records::{RowId, SlotPtr, Store, Tx, Txid};
+use std::marker::Model;
 
+// A change of the store, with its place and what is put there.
+#[derive(Clone, Copy)]
+pub enum Put {
+    Stripe(usize, Txid),
+    Partition(usize, Txid),
+    Insert(u64),
+    Remove(u64),
+    Xmax(SlotPtr, Txid),
+    Head(RowId, SlotPtr),
+    Free(SlotPtr),
+    Drop(Txid),
+    Stamp(usize, Txid),
+    Poison,
+    Doom(Txid),
+    Enter(Txid),
+    Clock(u64),
+    Xmin(SlotPtr, Txid),
+    Next(SlotPtr, SlotPtr),
+    Key(SlotPtr, u32),
+    Lock(SlotPtr, Txid),
+}
+
+impl Put {
+    // The store with this put; a place past an array's end changes nothing.
+    fn apply(self, s: &mut Store)
+        ensures { s.new ≡ apply (meant self) s.old }
+    {
+        match self {
+            Put::Stripe(i, t) => puts::put(&mut s.stripe_guards, i, t.0),
+            Put::Partition(i, t) => puts::put(&mut s.partition_guards, i, t.0),
+            Put::Insert(c) => s.posting_count = packed::insert(&mut s.postings, s.posting_count, c),
+            Put::Remove(c) => s.posting_count = packed::remove(&mut s.postings, s.posting_count, c),
+            Put::Xmax(p, t) => puts::put(&mut s.xmax, p.0 as usize, t.0),
+            Put::Head(r, p) => puts::put(&mut s.heads, r.0, p.0),
+            Put::Free(p) => puts::free(s, p.0 as usize),
+            Put::Drop(t) => packed::leave(&mut s.active, t.0),
+            Put::Stamp(i, t) => puts::put(&mut s.stamps, i, t.0),
+            Put::Poison => s.poisoned = true,
+            Put::Doom(t) => {
+                s.poisoned = true;
+                s.doomed = t.0;
+            }
+            Put::Enter(t) => packed::enter(&mut s.active, t.0),
+            Put::Clock(t) => s.clock = t,
+            Put::Xmin(p, t) => puts::put(&mut s.xmin, p.0 as usize, t.0),
+            Put::Next(p, q) => puts::put(&mut s.next, p.0 as usize, q.0),
+            Put::Key(p, k) => {
+                puts::put(&mut s.key, p.0 as usize, k);
+                puts::put(&mut s.has, p.0 as usize, true);
+            }
+            Put::Lock(p, t) => {
+                puts::put(&mut s.owner, p.0 as usize, t.0);
+                puts::put(&mut s.locked, p.0 as usize, true);
+            }
+        }
+    }
+}
+
+// Puts in their order, with room for the longest run's.
 #[derive(Drop)]
-pub struct Journal;
+pub struct Journal {
+    puts: [Put; Journal::PUTS],
+    count: usize,
+}
+
+impl Model for Journal {
+    ghost use Rattle.std.specs.Prelude.{◌≡◌, ◌≤◌, List, length, map, take};
+    ghost use Rattle.rules.specs.Puts.{Put as RulesPut};
+    ghost use Rattle.journal.specs.Journal.{meant, put_limit};
+
+    ghost Value = { List RulesPut };
+
+    ghost view = { λ j. map meant (take j.count j.puts) };
+
+    ghost invariant = { λ j. (j.count ≤ put_limit) × (length j.puts ≡ put_limit) };
+}
 
 impl Journal {
     // The longest run takes and releases every guard, stamps every stripe, inserts, removes and publishes (two puts) every write, frees
@@ -24,140 +99,51 @@ impl Journal {
         + SlotPtr::PLACES
         + 2;
 
-    // the first word of a put is its kind and place, the second its value
-    pub const WORDS: usize = 2 * Journal::PUTS;
-
-    // the first word is kind * PLACE_BASE + place; every place of a store's array is below
-    pub const PLACE_BASE: u64 = (RowId::ROWS
-        + SlotPtr::PLACES
-        + Store::STRIPES
-        + RowId::PARTITIONS) as u64;
-
-    // heads, next pointers and keys take the low 32 bits of a value
-    pub const LOW_BASE: u64 = 4294967296;
-}
-
-// The kinds of puts, with the numbers that the definitions give them.
-#[derive(Drop)]
-pub struct Kind;
-
-impl Kind {
-    pub const STRIPE: u64 = 1;
-
-    pub const PARTITION: u64 = 2;
-
-    pub const INSERT: u64 = 3;
-
-    pub const REMOVE: u64 = 4;
-
-    pub const XMAX: u64 = 5;
-
-    pub const HEAD: u64 = 6;
-
-    pub const FREE: u64 = 7;
-
-    pub const DROP: u64 = 8;
-
-    pub const STAMP: u64 = 9;
-
-    pub const POISON: u64 = 10;
-
-    pub const DOOM: u64 = 11;
-
-    pub const ENTER: u64 = 12;
-
-    pub const CLOCK: u64 = 13;
-
-    pub const XMIN: u64 = 14;
-
-    pub const NEXT: u64 = 15;
-
-    pub const KEY: u64 = 16;
-
-    pub const LOCK: u64 = 17;
-
-    // no kind is higher
-    pub const LAST: u64 = Kind::LOCK;
-}
-
-// The two words of a put, from place i on.
-fn write(x: &mut [u64], i: usize, word: u64, val: u64)
-    requires { i + 1 < length x.old }
-    ensures { x.new ≡ set (set x.old i word) (i + 1) val }
-{
-    x[i] = word;
-    x[i + 1] = val;
-}
-
-// Puts one more into a journal of n puts and answers their new number; a full journal, a kind that is none and a place too high change nothing.
-pub fn push(j: &mut [u64; Journal::WORDS], n: usize, kind: u64, at: usize, val: u64) -> usize
-    ensures { Pushed j.old n (put kind at val) j.new result }
-{
-    if Journal::PUTS <= n {
-        return n;
-    }
-    if Kind::LAST < kind {
-        return n;
-    }
-    let place = at as u64;
-    if Journal::PLACE_BASE <= place {
-        return n;
-    }
-    write(j, n + n, kind * Journal::PLACE_BASE + place, val);
-    n + 1
-}
-
-// The first n puts of the journal, one after the other; no more than it has room for.
-pub fn apply(s: Store, j: &[u64; Journal::WORDS], n: usize) -> Store
-    ensures { result ≡ apply_all (puts j.now (min n put_limit)) s }
-{
-    let end = clipped(n, Journal::PUTS);
-    let mut t = s;
-    let mut i: usize = 0;
-    while i < end {
-        let word = j[i + i];
-        let v = j[i + i + 1];
-        i += 1;
-        let at = (word % Journal::PLACE_BASE) as usize;
-        let low = (v % Journal::LOW_BASE) as u32;
-        let count = t.posting_count;
-        match word / Journal::PLACE_BASE {
-            Kind::STRIPE => puts::put_stripe(&mut t.stripe_guards, at, v),
-            Kind::PARTITION => puts::put_partition(&mut t.partition_guards, at, v),
-            Kind::INSERT => t.posting_count = puts::insert_posting(&mut t.postings, count, v),
-            Kind::REMOVE => t.posting_count = puts::remove_posting(&mut t.postings, count, v),
-            Kind::XMAX => puts::put_txid(&mut t.xmax, at, v),
-            Kind::HEAD => puts::put_head(&mut t.heads, at, low),
-            Kind::FREE => {
-                puts::put_txid(&mut t.xmin, at, 0);
-                puts::put_txid(&mut t.xmax, at, 0);
-                puts::put_number(&mut t.next, at, 0);
-                puts::put_number(&mut t.key, at, 0);
-                puts::put_flag(&mut t.has, at, false);
-                puts::put_flag(&mut t.locked, at, false);
-                puts::put_txid(&mut t.owner, at, 0);
-            }
-            Kind::DROP => puts::leave_active(&mut t.active, v),
-            Kind::STAMP => puts::put_stripe(&mut t.stamps, at, v),
-            Kind::POISON => t.poisoned = true,
-            Kind::DOOM => {
-                t.poisoned = true;
-                t.doomed = v;
-            }
-            Kind::ENTER => puts::enter_active(&mut t.active, v),
-            Kind::CLOCK => t.clock = v,
-            Kind::XMIN => puts::put_txid(&mut t.xmin, at, v),
-            Kind::NEXT => puts::put_number(&mut t.next, at, low),
-            Kind::KEY => {
-                puts::put_number(&mut t.key, at, low);
-                puts::put_flag(&mut t.has, at, true);
-            }
-            Kind::LOCK => {
-                puts::put_txid(&mut t.owner, at, v);
-                puts::put_flag(&mut t.locked, at, true);
-            }
-            _ => {}
+    // No puts.
+    pub fn new() -> Journal
+        ensures { result ≡ [] }
+    {
+        Journal {
+            puts: [Put::Poison; Journal::PUTS],
+            count: 0,
         }
     }
-    t
+
+    // Its puts.
+    fn held(&self) -> &[Put]
+        ensures puts { map meant result.now ≡ self.now }
+        ensures room { length result.now ≤ put_limit }
+    {
+        &self.puts[..self.count]
+    }
+
+    // How many puts there are.
+    pub fn len(&self) -> usize
+        ensures count { result ≡ length self.now }
+        ensures room { length self.now ≤ put_limit }
+    {
+        self.held().len()
+    }
+
+    // One put more; a full journal stays as it is.
+    pub fn push(&mut self, put: Put)
+        ensures { Adds self.old (meant put ∷ []) self.new }
+    {
+        if self.count < Journal::PUTS {
+            self.puts[self.count] = put;
+            self.count += 1;
+        }
+    }
+
+    // The first n puts, one after the other; no more than there are.
+    pub fn apply(&self, s: Store, n: usize) -> Store
+        ensures { result ≡ apply_all (take n self.now) s }
+    {
+        let puts = self.held();
+        let mut t = s;
+        for put in &puts[..n.min(puts.len())] {
+            put.apply(&mut t);
+        }
+        t
+    }
 }

@@ -1,16 +1,12 @@
--- `push_marked` meets its contract. The invariant: whatever pushes what is left, pushes all.
-use Prim.Native.Nat.{ℕ, ◌≤◌, ◌-◌}
-use mathlib.Core.List.{List}
-use lib.ListN.{length}
-use Rattle.journal.specs.Pushing.{Pushes}
-use Rattle.journal.specs.AtMarks.{marked}
+-- `push_marked` meets its contract. The invariant: what is pushed so far and what is left are the block.
+use Rattle.std.proofs.Common.{◌≡◌, ◌<◌, ℕ, length, take}
+use Rattle.rules.specs.Puts.{Put}
+use Rattle.journal.specs.Journal.{meant}
+use Rattle.journal.specs.Pushing.{Pushing}
+use Rattle.journal.specs.AtMarks.{marked, placed}
 use Rattle.journal.proofs.at_marks.push_marked.Given as goal
 
 abbrev pub invariant-loop-i : goal.invariant-loop-i
-invariant-loop-i l =
-    (l.i ≤ length l.marks)
-    × ((after : List ℕ) (r : ℕ) → Pushes l.j l.k (marked l.kind l.val l.left l.i l.marks) after r
-    → Pushes l.initial.j l.n (marked l.kind l.val l.limit 0 l.marks) after r)
-
-abbrev pub decreases-loop-i : goal.decreases-loop-i
-decreases-loop-i l = length l.marks - l.i
+invariant-loop-i g l =
+    (f : ℕ → Put) → ((i : ℕ) (p : _) → i < length l.marks → goal.F-post g l.put i p → meant p ≡ f i)
+    → Pushing l.initial.j (take l.limit (placed f l.marks)) (marked f l.left l.i l.marks) l.j
