@@ -1,18 +1,21 @@
 -- The plan of a commit and what strikes it, read off a store and a schedule.
-use Rattle.std.specs.Prelude.{◌≡◌, Bool, true, false, ◌||◌, List, [], ◌∷◌, map, ℕ, ◌≤◌, length, get_or}
-use Rattle.std.proofs.Common.{sym, ap, ◌∙◌, arith}
+use Rattle.std.specs.Prelude.{◌≡◌, Bool, true, false, ◌||◌, List, [], ◌∷◌, map, ℕ, ◌≤◌, length, get_or, take}
+use Rattle.std.proofs.Common.{sym, ap, ◌∙◌, arith, length-take, take_all}
+use Rattle.std.proofs.Math.Nat.{min-eq_left}
 use Rattle.records.specs.Limits.{rows, places, stripes, active_limit, write_limit}
 use Rattle.records.specs.Zero.{no_write}
 use Rattle.statements.specs.Sized.{Sized}
-use Rattle.rules.specs.Lists.{pad, first_true}
-use Rattle.rules.specs.Types.{Store, Tx, Schedule}
-use Rattle.rules.specs.Transaction.{finals}
+use Rattle.rules.specs.Lists.{first_true}
+use Rattle.rules.specs.Types.{Store, Tx, Write, Schedule}
+use Rattle.rules.specs.Transaction.{writes_of, finals}
 use Rattle.rules.specs.Chains.{walk}
 use Rattle.rules.specs.Faults.{F, X, Q}
 use Rattle.rules.specs.Fit.{fit}
+use Rattle.rules.specs.Puts.{Put}
 use Rattle.rules.specs.Commit.{count, strikes, run_of}
+use Rattle.run_laws.specs.FinalWrites.{finals_few}
 use Rattle.run_laws.specs.Gates.{gates}
-use Rattle.journal.specs.Journal.{Holds}
+use Rattle.fields.specs.Pad.{take_pad}
 use Rattle.journal.specs.Adds.{Adds}
 use Rattle.fields.specs.Walked.{marks_array}
 use Rattle.fields.specs.Lent.{array_same, at_rows, at_places, flags_at_places}
@@ -49,27 +52,34 @@ marks_are S z {seen} e =
     marks_array S.heads S.next seen (e ∙ rw (array_same rows 0 S.heads z.heads, array_same places 0 S.next z.next))
 
 -- the final writes laid out
-laid_at : (x : Tx) {f : Finals} → f ≡ finals_laid x → f.at ≡ pad write_limit no_write (finals x)
-unfolding finals_laid
-laid_at x e = ap (λ (g : Finals). g.at) e
-
 pub laid_count : (x : Tx) {f : Finals} → f ≡ finals_laid x → f.count ≡ length (finals x)
 unfolding finals_laid
 laid_count x e = ap (λ (g : Finals). g.count) e
 
+-- no more than a transaction has writes
+pub finals_long : (x : Tx) → length x.writes ≡ write_limit → length (finals x) ≤ write_limit
+unfolding finals
+finals_long x h = omega (arith, finals_few (writes_of x), length-take x.write_count x.writes)
+
+-- read back
+pub laid_taken : (x : Tx) {f : Finals} → length x.writes ≡ write_limit → f ≡ finals_laid x → take f.count f.at ≡ finals x
+unfolding finals_laid
+laid_taken x h e =
+    let few = finals_long x h in
+    ap (λ (g : Finals). take g.count g.at) e ∙ rw (min-eq_left few) at (take_pad write_limit no_write (finals x)) ∙ take_all write_limit (finals x) few
+
 -- the plan from the store's arrays, the marks of its walk and the final writes is the commit's
-pub plan_told : (S : Store) (x : Tx) → Sized S → fit S x ≡ true → {p : Plan} {f : Finals} {seen : List ℕ} → f ≡ finals_laid x
+pub plan_told : (S : Store) (x : Tx) → Sized S → fit S x ≡ true → {p : Plan} {ws : List Write} {seen : List ℕ} → ws ≡ finals x
     → seen ≡ (walk (at_rows S.heads) (at_places S.next)).seen
-    → p ≡ plan_from (at_places S.key) (flags_at_places S.has) (at_places S.xmin) (at_places seen) x f.at f.count → p ≡ plan_of S x
+    → p ≡ plan_from (at_places S.key) (flags_at_places S.has) (at_places S.xmin) (at_places seen) x ws → p ≡ plan_of S x
 plan_told S x z ok laid marks e =
     e
-    ∙ plan_is x _ _ _ _ _ _ S
+    ∙ plan_is x _ _ _ _ _ S
     (array_same places 0 S.key z.key)
     (array_same places false S.has z.has)
     (array_same places 0 S.xmin z.xmin)
     (marks_are S z marks)
-    (laid_at x laid)
-    (laid_count x laid)
+    laid
     ok
 
 -- what strikes, by the letter and the k of each step
@@ -104,9 +114,9 @@ unfolding gate_of gates
 gate_few S x logged plan = first_few (map (λ g. g.when) (gates S x logged plan))
 
 -- what the journal holds once the run is pushed
-pub run_pushed : (S : Store) (x : Tx) (logged : Bool) (plan : Schedule) → Sized S → fit S x ≡ true → {p : Plan} {q : Struck} {g r : ℕ} {j after : List ℕ}
+pub run_pushed : (S : Store) (x : Tx) (logged : Bool) (plan : Schedule) → Sized S → fit S x ≡ true → {p : Plan} {q : Struck} {g : ℕ} {after : List Put}
     → p ≡ plan_of S x → q ≡ struck_of S x logged plan → g ≡ gate_of S x logged plan
-    → (Planned S x logged plan p q → Adds j 0 (puts_at S x logged plan g) after r) → Holds after r (run_of S x logged plan).puts
+    → (Planned S x logged plan p q → Adds [] (puts_at S x logged plan g) after) → after ≡ (run_of S x logged plan).puts
 run_pushed S x logged plan z ok {p} {q} {g} pl st at a =
     let h : Planned S x logged plan p q = record { plans = pl; strikes = st; fits = ok; long = omega (arith, z.xmin) } in
     let few : g ≤ clean_gate = rw at (gate_few S x logged plan) in

@@ -10,8 +10,6 @@ use Rattle.rules.specs.Transaction.{finals}
 use Rattle.rules.specs.Puts.{Put, apply_all}
 use Rattle.rules.specs.Commit.{run_of}
 use Rattle.rules.specs.Answer.{no_events, no_record, uncut, cut_off, answer}
-use Rattle.journal.specs.Journal.{put_limit, puts, Holds}
-use Rattle.journal.specs.Holds.{holds_count, holds_cut}
 use Rattle.commit_tests.specs.declared.faults.Letters.{Letters}
 use Rattle.commit_tests.specs.Striking.{letters}
 use Rattle.steps.specs.declared.first.Stop.{Stop}
@@ -45,19 +43,14 @@ whole_answer T x logged bound l s n =
       stores = n;
     }
 
--- the puts applied are the first m of the run's
-applied : {j : List ℕ} {n m : ℕ} {ps : List Put} {T : Store} (S : Store) → Holds j n ps → m ≤ n → T ≡ apply_all (puts j (min m put_limit)) S
-    → T ≡ apply_all (take m ps) S
-applied {j} {n} {m} S h l e =
-    let room = h.room in
-    let z : min m put_limit ≡ m = omega arith in
-    e ∙ ap (λ (k : ℕ). apply_all (puts j k) S) z ∙ ap (λ (qs : List Put). apply_all qs S) (holds_cut m h l).are
-
-module _ (S : Store) (x : Tx) (logged : Bool) (plan : Schedule) (cut : Cut) {j : List ℕ} {n m : ℕ} {T : Store}
-    (holds : Holds j n (run_of S x logged plan).puts) (stop : m ≡ stop_at cut n) (stored : T ≡ apply_all (puts j (min m put_limit)) S) where
-  -- there are n stores, and no more than them are made
+module _ (S : Store) (x : Tx) (logged : Bool) (plan : Schedule) (cut : Cut) {j : List Put} {n m : ℕ} {T : Store}
+    (holds : j ≡ (run_of S x logged plan).puts) (long : n ≡ length j) (stop : m ≡ stop_at cut n) (stored : T ≡ apply_all (take m j) S) where
+  -- there are n stores, and no more than them are made: the first m of the run's
   count : n ≡ length (run_of S x logged plan).puts
-  count = holds_count holds
+  count = long ∙ ap length holds
+
+  applied : T ≡ apply_all (take m (run_of S x logged plan).puts) S
+  applied = stored ∙ ap (λ (ps : List Put). apply_all (take m ps) S) holds
 
   within : (c : Cut) → m ≡ stop_at c n → m ≤ n
   unfolding stop_at
@@ -86,7 +79,7 @@ module _ (S : Store) (x : Tx) (logged : Bool) (plan : Schedule) (cut : Cut) {j :
       ∙ (λ i. record {
         refusal = CutOff Closed;
         «record» = no_record;
-        store = applied S holds (within cut stop) stored i;
+        store = applied i;
         tx = zero_tx;
         events = no_events;
         stores = m;
@@ -100,9 +93,8 @@ module _ (S : Store) (x : Tx) (logged : Bool) (plan : Schedule) (cut : Cut) {j :
       let p = letter_in l in
       let g = s.gate in
       let d = ending_for p s.cause (number_at g) in
-      let few = within cut stop in
       let all : T ≡ apply_all (run_of S x logged plan).puts S =
-      applied S holds few stored ∙ ap (λ (qs : List Put). apply_all qs S) (take_all m (run_of S x logged plan).puts (omega (arith, count))) in
+      applied ∙ ap (λ (qs : List Put). apply_all qs S) (take_all m (run_of S x logged plan).puts (omega (arith, count))) in
       let made = count in
       e
       ∙ (λ i. record {

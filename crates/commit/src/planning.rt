@@ -5,7 +5,7 @@ ghost use Rattle.rules.specs.Types.{Store, Tx, Schedule};
 ghost use Rattle.commit_tests.specs.Striking.{letters};
 ghost use Rattle.commit.specs.Plan.Planned.{struck_of};
 
-use super::plan::run::{Struck, either};
+use super::plan::run::Struck;
 use commit_tests::faults::Letters;
 
 // What a schedule says of the stores, by its letters and their k.
@@ -18,7 +18,6 @@ pub fn struck_of(l: Letters, poisoned: bool) -> Struck
     let recycled = l.counts[19];
     let stamped = l.counts[22];
     let rolled = l.counts[24];
-    let worse = either(l.at[16] == b'X', l.at[16] == b'Q');
     Struck {
         inserted: inserted as usize,
         removed: removed as usize,
@@ -29,7 +28,7 @@ pub fn struck_of(l: Letters, poisoned: bool) -> Struck
         finish: l.at[21] == b'F',
         abort: l.at[23] == b'F',
         rollback: l.at[24] == b'F',
-        worse: worse,
-        poisoned: poisoned,
+        worse: l.at[16] == b'X' || l.at[16] == b'Q',
+        poisoned,
     }
 }

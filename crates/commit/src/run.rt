@@ -7,6 +7,7 @@ ghost use Rattle.rules.specs.Commit.{run_of};
 ghost use Rattle.rules.specs.Answer.{answer};
 ghost use Rattle.fields.specs.Lent.{at_rows, at_places};
 
+use super::plan::first;
 use super::plan::run::{plan_of, push_run};
 use super::{answers, planning};
 use commit_tests::faults::letters_of;
@@ -29,8 +30,8 @@ pub fn run(
 {
     let l = letters_of(plan);
     let finals = final_writes(x);
-    let at = finals.at;
-    let p = plan_of(&s.key, &s.has, &s.xmin, seen, x, at, finals.count);
+    let writes = first(&finals.at, finals.count);
+    let p = plan_of(&s, seen, &x, writes);
     let q = planning::struck_of(l, s.poisoned);
     let stop = first_gate(
         l,
@@ -47,11 +48,12 @@ pub fn run(
         &s.xmax,
         x,
     );
-    let mut j = [0; Journal::WORDS];
-    let n = push_run(p, q, stop.gate, &mut j, 0);
+    let mut j = Journal::new();
+    push_run(&p, writes, &q, stop.gate, &mut j);
+    let n = j.len();
     let m = answers::stop_at(cut, n);
     let bound = s.bound;
-    let t = journal::apply(s, &j, m);
+    let t = j.apply(s, m);
     if m < n {
         return answers::cut_answer(t, m);
     }

@@ -8,7 +8,8 @@ use Rattle.run_laws.specs.GuardPuts.{apply_all_append}
 use Rattle.journal.specs.Journal.{Planned, meant}
 
 -- one put more is applied
-pub apply_more : (l : List Planned) (i : ℕ) (d : Planned) (S T U : Store) → i < length l → T ≡ apply_all (map meant (take i l)) S → U ≡ apply (meant (get_or l i d)) T
+pub apply_more : (l : List Planned) (i : ℕ) (d : Planned) (S T U : Store) → i < length l → T ≡ apply_all (map meant (take i l)) S
+    → U ≡ apply (meant (get_or l i d)) T
     → U ≡ apply_all (map meant (take (i + 1) l)) S
 apply_more l i d S T U h e f =
     f

@@ -1,6 +1,6 @@
 -- A transaction's own slots as marks, without those that its final writes name: the recycled ones.
-use Rattle.std.specs.Prelude.{◌≡◌, refl, Bool, true, false, not, ◌&&◌, ◌||◌, List, [], ◌∷◌, map, ℕ, zero, suc, ◌+◌, ◌<◌, ◌≤◌, length, set, eqb}
-use Rattle.std.proofs.Common.{subst, sym, ap, ◌∙◌, add-zero, arith, length-set, eq-eqb, ne_eqb}
+use Rattle.std.specs.Prelude.{◌≡◌, refl, Bool, true, false, not, ◌&&◌, ◌||◌, List, [], ◌∷◌, map, ℕ, zero, suc, ◌+◌, ◌<◌, ◌≤◌, length, get_or, set, drop, eqb}
+use Rattle.std.proofs.Common.{subst, sym, ap, ◌∙◌, add-zero, add-one, drop-cons, arith, length-set, eq-eqb, ne_eqb}
 use Rattle.std.proofs.Math.Seq.{set_out}
 use Rattle.records.specs.Limits.{places}
 use Rattle.rules.specs.Lists.{those, memb}
@@ -10,23 +10,27 @@ use Rattle.rules.specs.Transaction.{finals}
 use Rattle.rules.specs.Chains.{walk}
 use Rattle.rules.specs.Changes.{recycled}
 use Rattle.visibility.specs.OwnMarks.{own_marks, own_marked, own_long}
-use Rattle.fields.specs.Marks.{marked_from}
+use Rattle.fields.specs.Marks.{mark_all, marked_from}
 
--- every number of l unmarked, one after the other
-abbrev pub unmark_all : List ℕ → List Bool → List Bool
-unmark_all [] m = m
-unmark_all (r ∷ l) m = unmark_all l (set m r false)
+-- the mark of every number of l set to b, one after the other
+abbrev pub set_each : Bool → List ℕ → List Bool → List Bool
+set_each b [] m = m
+set_each b (r ∷ l) m = set_each b l (set m r b)
+
+pub marked_each : (l : List ℕ) (m : List Bool) → set_each true l m ≡ mark_all l m
+marked_each [] m = refl
+marked_each (r ∷ l) m = marked_each l (set m r true)
 
 abbrev pub new_of : Write → ℕ
 new_of w = w.new.0
 
--- one element of a list more, whose number is unmarked if it has a place
-module _ {ℓ} {A : Type ℓ} (f : A → ℕ) (a : A) (l rest : List A) (m : List Bool) (next : l ≡ a ∷ rest) where
-  pub unmark_next : unmark_all (map f l) m ≡ unmark_all (map f rest) (set m (f a) false)
-  unmark_next = rw next
+-- one turn of the loop: the mark of the next item is set, or its place is too high
+module _ {A : Type 0} (f : A → ℕ) (b : Bool) (l : List A) (i : ℕ) (d : A) (m : List Bool) {all : List Bool} (lt : i < length l) where
+  pub each_next : set_each b (map f (drop i l)) m ≡ all → set_each b (map f (drop (i + 1) l)) (set m (f (get_or l i d)) b) ≡ all
+  each_next h = rw (add-one i) (rw (drop-cons l i d lt) at h)
 
-  pub unmark_high : length m ≤ f a → unmark_all (map f l) m ≡ unmark_all (map f rest) m
-  unmark_high h = unmark_next ∙ ap (unmark_all (map f rest)) (set_out m (f a) false h)
+  pub each_high : set_each b (map f (drop i l)) m ≡ all → length m ≤ f (get_or l i d) → set_each b (map f (drop (i + 1) l)) m ≡ all
+  each_high h p = rw (set_out m (f (get_or l i d)) b p) at (each_next h)
 
 -- a filter that all pass, and one filter after another
 those_all {ℓ} : {A : Type ℓ} (l : List A) → those (λ x. true) l ≡ l
@@ -63,7 +67,7 @@ unmark_one p (b ∷ m) (suc i) =
     go true h = rw (ne_eqb p (p + suc i) (omega arith), h)
     go false h = h
 
-unmark_all_law : (l : List ℕ) (m : List Bool) → marked_from 0 (unmark_all l m) ≡ those (λ p. not (memb p l)) (marked_from 0 m)
+unmark_all_law : (l : List ℕ) (m : List Bool) → marked_from 0 (set_each false l m) ≡ those (λ p. not (memb p l)) (marked_from 0 m)
 unmark_all_law [] m = sym (those_all (marked_from 0 m))
 unmark_all_law (r ∷ l) m =
     let z : 0 + r ≡ r = omega arith in
@@ -77,7 +81,7 @@ unmark_all_law (r ∷ l) m =
 
 -- the own slots but those of final writes are the definition's recycled ones
 unfoldable pub recycled_marks : List ℕ → List ℕ → Tx → List Bool
-recycled_marks xmin seen x = unmark_all (map new_of (finals x)) (own_marks xmin seen x.txid.0)
+recycled_marks xmin seen x = set_each false (map new_of (finals x)) (own_marks xmin seen x.txid.0)
 
 pub recycled_marked : (S : Store) (x : Tx) → length S.xmin ≤ places
     → marked_from 0 (recycled_marks S.xmin (walk S.heads S.next).seen x) ≡ recycled S x
@@ -87,7 +91,7 @@ recycled_marked S x h =
     ∙ ap (those (λ p. not (memb p (map new_of (finals x))))) (own_marked S.heads S.next S.xmin x.txid.0 h)
 
 -- there are as many flags as places
-unmark_length : (l : List ℕ) (m : List Bool) → length (unmark_all l m) ≡ length m
+unmark_length : (l : List ℕ) (m : List Bool) → length (set_each false l m) ≡ length m
 unmark_length [] m = refl
 unmark_length (r ∷ l) m = unmark_length l (set m r false) ∙ length-set m r false
 

@@ -2,12 +2,9 @@
 use Rattle.std.specs.Prelude.{◌≡◌, Bool, true, false, cond, List, [], ◌∷◌, map, ℕ, ◌≤◌, eqb, ltb}
 use Rattle.std.proofs.Math.Path.{ap}
 use Rattle.std.proofs.Common.{◌∙◌, arith, take_all}
-use Rattle.std.proofs.Math.Nat.{min-eq_left}
 use Rattle.std.proofs.Math.ListN.{length, take}
-use Rattle.records.specs.Limits.{places, write_limit}
+use Rattle.records.specs.Limits.{places}
 use Rattle.records.specs.Relations.{run_puts}
-use Rattle.records.specs.Zero.{no_write}
-use Rattle.rules.specs.Lists.{pad}
 use Rattle.rules.specs.Types.{Store, Tx, Write, Schedule}
 use Rattle.rules.specs.Transaction.{index_reads_of, finals}
 use Rattle.rules.specs.Chains.{walk}
@@ -19,27 +16,24 @@ use Rattle.rules.specs.Commit.{fails, count}
 use Rattle.run_laws.specs.Outcome.{worse}
 use Rattle.journal.specs.Journal.{put_limit}
 use Rattle.journal.specs.Adds.{Adds, adds_then}
-use Rattle.fields.specs.Pad.{take_pad}
 use Rattle.steps.specs.GateTable.{partition_guards_failed, unlogged_check_failed, insert_failed, remove_failed, publish_failed, recycle_failed, stamp_failed}
 use Rattle.commit.specs.declared.plan.moves.Moves.{Moves}
 use Rattle.commit.specs.declared.plan.run.Plan.{Plan}
 use Rattle.commit.specs.declared.plan.run.Struck.{Struck}
 use Rattle.fields.specs.Marks.{mark_all}
 use Rattle.commit.specs.Plan.Plain.{low, low_same, finals_plain}
-use Rattle.commit.specs.Plan.Moves.{codes_of, changed_marks, moves_of}
+use Rattle.commit.specs.Plan.Moves.{changed_marks, moves_of}
 use Rattle.commit.specs.Plan.Guards.{stripe_read, guarded_marks, partition_marks}
 use Rattle.visibility.specs.OwnMarks.{own_marks}
-use Rattle.commit.specs.Plan.Own.{unmark_all, new_of, recycled_marks}
-use Rattle.commit.specs.Plan.Few.{finals_fit, insertions_few, removals_few, publication_few, recycling_few, stamping_few}
+use Rattle.commit.specs.Plan.Own.{set_each, new_of, recycled_marks}
+use Rattle.commit.specs.Plan.Few.{insertions_few, removals_few, publication_few, recycling_few, stamping_few}
 use Rattle.commit.specs.Plan.Parts.{after, up_to, taken, passed}
 
 unfoldable pub plan_of : Store → Tx → Plan
 plan_of S x = record {
-  txid = x.txid.0;
-  at = pad write_limit no_write (finals x);
-  count = length (finals x);
-  into = codes_of (destinations (changes S x));
-  out = codes_of (sources (changes S x));
+  txid = x.txid;
+  into = destinations (changes S x);
+  out = sources (changes S x);
   changed = changed_marks (changes S x);
   stripes = guarded_marks (changes S x) x;
   partitions = partition_marks x;
@@ -69,41 +63,31 @@ pub record Planned (S : Store) (x : Tx) (logged : Bool) (plan : Schedule) (p : P
   pub fits : fit S x ≡ true
   pub long : length S.xmin ≤ places
 
--- the final writes read back from their array
-finals_taken : (S : Store) (x : Tx) → fit S x ≡ true → take (length (finals x)) (pad write_limit no_write (finals x)) ≡ finals x
-finals_taken S x ok =
-    let h = finals_fit S x ok in
-    rw (min-eq_left h) at (take_pad write_limit no_write (finals x)) ∙ take_all write_limit (finals x) h
-
 -- how many puts of a block are pushed: none before its own gate, k there, and then all
 abbrev pub limit_at : ℕ → ℕ → ℕ → ℕ
 limit_at g own k = cond (ltb g own) 0 (cond (eqb g own) k put_limit)
 
-module _ {j after : List ℕ} {n r : ℕ} where
-  pub limited : (g own k l : ℕ) (ps : List Put) → length ps ≤ put_limit → l ≡ limit_at g own k → Adds j n (take l ps) after r
-      → Adds j n (up_to own g k ps) after r
+module _ {j after : List Put} where
+  pub limited : (g own k l : ℕ) (ps : List Put) → length ps ≤ put_limit → l ≡ limit_at g own k → Adds j (take l ps) after
+      → Adds j (up_to own g k ps) after
   limited g own k l ps h e a = go (ltb g own) (eqb g own) (rw e at a)
     where
-      go : (b c : Bool) → Adds j n (take (cond b 0 (cond c k put_limit)) ps) after r → Adds j n (cond b [] (cond c (take k ps) ps)) after r
+      go : (b c : Bool) → Adds j (take (cond b 0 (cond c k put_limit)) ps) after → Adds j (cond b [] (cond c (take k ps) ps)) after
       go true c a = a
       go false true a = a
       go false false a = rw (take_all put_limit ps h) at a
 
 -- the parts of a plan and what strikes it
 module _ {S : Store} {x : Tx} {logged : Bool} {plan : Schedule} {p : Plan} {s : Struck} (h : Planned S x logged plan p s) where
-  pub txid_is : p.txid ≡ x.txid.0
+  pub txid_is : p.txid ≡ x.txid
   unfolding plan_of
   txid_is = ap (λ q. q.txid) h.plans
 
-  pub writes_are : take p.count p.at ≡ finals x
-  unfolding plan_of
-  writes_are = ap (λ q. take q.count q.at) h.plans ∙ finals_taken S x h.fits
-
-  pub into_is : p.into ≡ codes_of (destinations (changes S x))
+  pub into_is : p.into ≡ destinations (changes S x)
   unfolding plan_of
   into_is = ap (λ q. q.into) h.plans
 
-  pub out_is : p.out ≡ codes_of (sources (changes S x))
+  pub out_is : p.out ≡ sources (changes S x)
   unfolding plan_of
   out_is = ap (λ q. q.out) h.plans
 
@@ -119,7 +103,7 @@ module _ {S : Store} {x : Tx} {logged : Bool} {plan : Schedule} {p : Plan} {s : 
   unfolding plan_of
   partitions_are_law = ap (λ q. q.partitions) h.plans
 
-  pub own_is : p.own ≡ own_marks S.xmin (walk S.heads S.next).seen p.txid
+  pub own_is : p.own ≡ own_marks S.xmin (walk S.heads S.next).seen p.txid.0
   unfolding plan_of
   own_is = rw txid_is (ap (λ q. q.own) h.plans)
 
@@ -128,12 +112,12 @@ module _ {S : Store} {x : Tx} {logged : Bool} {plan : Schedule} {p : Plan} {s : 
   recycled_is = ap (λ q. q.recycled) h.plans
 
   -- guards and postings; rows
-  pub taken_put : (g : ℕ) {j₀ j₁ j₂ j₃ j₄ : List ℕ} {n₀ n₁ n₂ n₃ n₄ l m : ℕ}
-      → Adds j₀ n₀ (after partition_guards_failed g (index_guards S x p.txid)) j₁ n₁
-      → Adds j₁ n₁ (after unlogged_check_failed g (partition_guards x p.txid)) j₂ n₂
-      → l ≡ limit_at g insert_failed s.inserted → Adds j₂ n₂ (take l (insertions S x)) j₃ n₃ → m ≡ limit_at g remove_failed s.removed
-      → Adds j₃ n₃ (take m (removals S x)) j₄ n₄
-      → Adds j₀ n₀ (taken S x logged plan g) j₄ n₄
+  pub taken_put : (g : ℕ) {j₀ j₁ j₂ j₃ j₄ : List Put} {l m : ℕ}
+      → Adds j₀ (after partition_guards_failed g (index_guards S x p.txid.0)) j₁
+      → Adds j₁ (after unlogged_check_failed g (partition_guards x p.txid.0)) j₂
+      → l ≡ limit_at g insert_failed s.inserted → Adds j₂ (take l (insertions S x)) j₃ → m ≡ limit_at g remove_failed s.removed
+      → Adds j₃ (take m (removals S x)) j₄
+      → Adds j₀ (taken S x logged plan g) j₄
   unfolding taken struck_of
   taken_put g {l = l} {m = m} a b e c f d =
       let i : s.inserted ≡ count S x logged plan 15 = ap (λ q. q.inserted) h.strikes in
@@ -143,11 +127,11 @@ module _ {S : Store} {x : Tx} {logged : Bool} {plan : Schedule} {p : Plan} {s : 
       adds_then (rw txid_is at a) (adds_then (rw txid_is at b)
       (adds_then (limited g insert_failed _ l (insertions S x) in_room (rw i at e) c) (limited g remove_failed _ m (removals S x) out_room (rw r at f) d)))
 
-  pub passed_put : (g : ℕ) {j₀ j₁ j₂ j₃ j₄ : List ℕ} {n₀ n₁ n₂ n₃ n₄ l m k : ℕ}
-      → l ≡ limit_at g publish_failed s.published → Adds j₀ n₀ (take l (publication x)) j₁ n₁ → m ≡ limit_at g recycle_failed s.recycled
-      → Adds j₁ n₁ (take m (recycling S x)) j₂ n₂
-      → Adds j₂ n₂ (after stamp_failed g (put_drop p.txid ∷ [])) j₃ n₃ → k ≡ limit_at g stamp_failed s.stamped → Adds j₃ n₃ (take k (stamping S x)) j₄ n₄
-      → Adds j₀ n₀ (passed S x logged plan g) j₄ n₄
+  pub passed_put : (g : ℕ) {j₀ j₁ j₂ j₃ j₄ : List Put} {l m k : ℕ}
+      → l ≡ limit_at g publish_failed s.published → Adds j₀ (take l (publication x)) j₁ → m ≡ limit_at g recycle_failed s.recycled
+      → Adds j₁ (take m (recycling S x)) j₂
+      → Adds j₂ (after stamp_failed g (put_drop p.txid.0 ∷ [])) j₃ → k ≡ limit_at g stamp_failed s.stamped → Adds j₃ (take k (stamping S x)) j₄
+      → Adds j₀ (passed S x logged plan g) j₄
   unfolding passed struck_of
   passed_put g {l = l} {m = m} {k = k} e a q b c w d =
       let i : s.published ≡ count S x logged plan 18 = ap (λ q. q.published) h.strikes in
@@ -160,33 +144,29 @@ module _ {S : Store} {x : Tx} {logged : Bool} {plan : Schedule} {p : Plan} {s : 
       (adds_then (limited g recycle_failed _ m (recycling S x) free_room (rw f at q) b)
       (adds_then (rw txid_is at c) (limited g stamp_failed _ k (stamping S x) stamp_room (rw t at w) d)))
 
--- the plan from the arrays that a commit reads, whatever they hold
-unfoldable pub plan_from : List ℕ → List Bool → List ℕ → List ℕ → Tx → List Write → ℕ → Plan
-plan_from key has xmin seen x at size =
-    let cs = index_changes key has (map low (take size at)) in
+-- the plan from the arrays that a commit reads and the writes, whatever they hold
+unfoldable pub plan_from : List ℕ → List Bool → List ℕ → List ℕ → Tx → List Write → Plan
+plan_from key has xmin seen x ws =
+    let cs = index_changes key has (map low ws) in
     record {
-      txid = x.txid.0;
-      at = at;
-      count = size;
-      into = codes_of (destinations cs);
-      out = codes_of (sources cs);
+      txid = x.txid;
+      into = destinations cs;
+      out = sources cs;
       changed = changed_marks cs;
       stripes = guarded_marks cs x;
       partitions = partition_marks x;
       own = own_marks xmin seen x.txid.0;
-      recycled = unmark_all (map new_of (take size at)) (own_marks xmin seen x.txid.0);
+      recycled = set_each false (map new_of ws) (own_marks xmin seen x.txid.0);
     }
 
-module _ (x : Tx) (key xmin seen : List ℕ) (has : List Bool) (at : List Write) (size : ℕ) where
+module _ (x : Tx) (key xmin seen : List ℕ) (has : List Bool) (ws : List Write) where
   -- part by part, as code computes it
   pub plan_from_law : {m : Moves} {guarded partitioned own recycled : List Bool}
-      → m ≡ moves_of (index_changes key has (map low (take size at))) → guarded ≡ mark_all (map stripe_read (index_reads_of x)) m.stripes
+      → m ≡ moves_of (index_changes key has (map low ws)) → guarded ≡ mark_all (map stripe_read (index_reads_of x)) m.stripes
       → partitioned ≡ partition_marks x
-      → own ≡ own_marks xmin seen x.txid.0 → recycled ≡ unmark_all (map new_of (take size at)) own
+      → own ≡ own_marks xmin seen x.txid.0 → recycled ≡ set_each false (map new_of ws) own
       → ◌≡◌ {A = Plan} (record {
-        txid = x.txid.0;
-        at = at;
-        count = size;
+        txid = x.txid;
         into = m.into;
         out = m.out;
         changed = m.stripes;
@@ -194,28 +174,22 @@ module _ (x : Tx) (key xmin seen : List ℕ) (has : List Bool) (at : List Write)
         partitions = partitioned;
         own = own;
         recycled = recycled;
-      }) (plan_from key has xmin seen x at size)
+      }) (plan_from key has xmin seen x ws)
   unfolding plan_from moves_of guarded_marks
   plan_from_law mv g p o r =
       λ i. record {
-        txid = x.txid.0;
-        at = at;
-        count = size;
+        txid = x.txid;
         into = (mv i).into;
         out = (mv i).out;
         changed = (mv i).stripes;
         stripes = (g ∙ ap (λ q. mark_all (map stripe_read (index_reads_of x)) q.stripes) mv) i;
         partitions = p i;
         own = o i;
-        recycled = (r ∙ ap (unmark_all (map new_of (take size at))) o) i;
+        recycled = (r ∙ ap (set_each false (map new_of ws)) o) i;
       }
 
   -- of a fit transaction, from the arrays of its store and its final writes, it is the plan of its commit
-  pub plan_is : (S : Store)
-      → key ≡ S.key → has ≡ S.has → xmin ≡ S.xmin → seen ≡ (walk S.heads S.next).seen → at ≡ pad write_limit no_write (finals x)
-      → size ≡ length (finals x) → fit S x ≡ true
-      → plan_from key has xmin seen x at size ≡ plan_of S x
+  pub plan_is : (S : Store) → key ≡ S.key → has ≡ S.has → xmin ≡ S.xmin → seen ≡ (walk S.heads S.next).seen → ws ≡ finals x → fit S x ≡ true
+      → plan_from key has xmin seen x ws ≡ plan_of S x
   unfolding plan_from plan_of changes recycled_marks
-  plan_is S k h t w a n ok =
-      let ws : take size at ≡ finals x = rw (a, n) (finals_taken S x ok) in
-      rw (ws, low_same (finals x) (finals_plain S x ok), k, h, t, w, a, n)
+  plan_is S k h t w f ok = rw (f, low_same (finals x) (finals_plain S x ok), k, h, t, w)

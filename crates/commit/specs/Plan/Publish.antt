@@ -1,47 +1,26 @@
 -- Publication as code pushes it, write by write.
 use Rattle.std.specs.Prelude.{◌≡◌, length, drop, eqb}
 use Rattle.std.proofs.Math.Path.{refl}
-use Rattle.std.proofs.Math.Bool.{true}
 use mathlib.Core.List.{List, [], ◌∷◌, ◌++◌}
-use Prim.Native.Nat.{ℕ, zero, suc, ◌+◌, ◌-◌, ◌<◌, ◌≤◌, min}
+use Prim.Native.Nat.{ℕ, zero, suc, ◌+◌, ◌-◌, ◌<◌, ◌≤◌}
 use Rattle.std.proofs.Common.{add-one, arith, drop_of_length-le, drop-cons, eq-eqb, ne_eqb}
-use Rattle.std.proofs.Math.ListN.{get_or, take, length-take}
-use Rattle.std.proofs.Math.Seq.{get_or-take}
-use Rattle.records.specs.Relations.{rows_placed, slots_placed, slots_narrow}
+use Rattle.std.proofs.Math.ListN.{get_or, take}
 use Rattle.records.specs.Zero.{no_write}
-use Rattle.rules.specs.Lists.{all, flat}
+use Rattle.rules.specs.Lists.{flat}
 use Rattle.basic_laws.specs.Cases.{by}
-use Rattle.rules.specs.Types.{Tx, Write}
-use Rattle.rules.specs.Transaction.{finals}
+use Rattle.rules.specs.Types.{Write}
 use Rattle.rules.specs.Puts.{Put, put_xmax, put_head}
-use Rattle.rules.specs.Changes.{publish_one, publication}
-use Rattle.basic_laws.specs.Members.{all_at}
-use Rattle.journal.specs.Journal.{Kept}
-use Rattle.journal.specs.Holds.{kept_wide, kept_small}
+use Rattle.rules.specs.Changes.{publish_one}
 use Rattle.journal.specs.Adds.{Adds}
-use Rattle.commit.specs.Plan.Plain.{plain, plain_parts}
 use Rattle.journal.specs.Pushing.{Pushing, pushing_more}
 
--- the puts of a plain write can be journalled
-pub head_kept : (w : Write) → plain w ≡ true → Kept (put_head w.row.0 w.new.0)
-head_kept w p =
-    let i = plain_parts w p in
-    kept_small (put_head w.row.0 w.new.0) (omega arith) (omega (arith, i.0, rows_placed)) (omega (arith, i.2, slots_narrow))
-
-pub xmax_kept : (w : Write) (t : ℕ) → plain w ≡ true → Kept (put_xmax w.base.0 t)
-xmax_kept w t p = let i = plain_parts w p in kept_wide (put_xmax w.base.0 t) (omega arith) (omega (arith, i.1, slots_placed)) refl
-
 -- the first `limit` puts of one write
-unfoldable pub of_write : ℕ → ℕ → Write → List Put
-of_write t limit w = take limit (publish_one t w)
-
 module _ (t limit : ℕ) (w : Write) where
-  pub write_none : limit ≡ 0 → of_write t limit w ≡ []
-  unfolding of_write
+  pub write_none : limit ≡ 0 → take limit (publish_one t w) ≡ []
   write_none e = rw e
 
-  pub write_new : 0 < limit → w.base.0 ≡ 0 → of_write t limit w ≡ put_head w.row.0 w.new.0 ∷ []
-  unfolding of_write publish_one
+  pub write_new : 0 < limit → w.base.0 ≡ 0 → take limit (publish_one t w) ≡ put_head w.row.0 w.new.0 ∷ []
+  unfolding publish_one
   write_new l e = rw (eq-eqb w.base.0 0 e) (go limit l)
     where
       go : (n : ℕ) → 0 < n → take n (put_head w.row.0 w.new.0 ∷ []) ≡ put_head w.row.0 w.new.0 ∷ []
@@ -49,12 +28,12 @@ module _ (t limit : ℕ) (w : Write) where
       go (suc zero) l = refl
       go (suc (suc n)) l = refl
 
-  pub write_mark : limit ≡ 1 → (w.base.0 ≡ 0 → ⊥) → of_write t limit w ≡ put_xmax w.base.0 t ∷ []
-  unfolding of_write publish_one
+  pub write_mark : limit ≡ 1 → (w.base.0 ≡ 0 → ⊥) → take limit (publish_one t w) ≡ put_xmax w.base.0 t ∷ []
+  unfolding publish_one
   write_mark l e = rw (ne_eqb w.base.0 0 e, l)
 
-  pub write_both : 1 < limit → (w.base.0 ≡ 0 → ⊥) → of_write t limit w ≡ (put_xmax w.base.0 t ∷ []) ++ (put_head w.row.0 w.new.0 ∷ [])
-  unfolding of_write publish_one
+  pub write_both : 1 < limit → (w.base.0 ≡ 0 → ⊥) → take limit (publish_one t w) ≡ (put_xmax w.base.0 t ∷ []) ++ (put_head w.row.0 w.new.0 ∷ [])
+  unfolding publish_one
   write_both l e = rw (ne_eqb w.base.0 0 e) (go limit l)
     where
       go : (n : ℕ) → 1 < n
@@ -98,24 +77,18 @@ publishing_end t limit i ws h = rw (drop_of_length-le ws {i = i} h) (none limit)
     none (suc n) = refl
 
 -- one turn of the loop
-module _ (t limit i count : ℕ) (at : List Write) {j₀ j after : List ℕ} {n₀ n r left size : ℕ} {block : List Put} where
-  pub push_one : all plain (take count at) ≡ true → i < min count (length at)
-      → Pushing j₀ n₀ block (publishing t limit i (take count at)) j n
-      → (plain (get_or at i no_write) ≡ true → Adds j n (of_write t limit (get_or at i no_write)) after r) → size ≡ size_of (get_or at i no_write)
-      → left ≡ limit - size
-      → Pushing j₀ n₀ block (publishing t left (i + 1) (take count at)) after r
-  unfolding publishing of_write
-  push_one ok lt h a s e =
-      let ws = take count at in
-      let w = get_or at i no_write in
-      let long = length-take count at in
-      let this : get_or ws i no_write ≡ w = get_or-take count at i no_write (omega arith) in
-      let fine : plain w ≡ true = rw this at (all_at plain ws ok i no_write (omega arith)) in
+module _ (t limit i : ℕ) (ws : List Write) (lt : i < length ws) {j₀ j after block : List Put} {left size : ℕ} where
+  pub push_one : Pushing j₀ block (publishing t limit i ws) j → Adds j (take limit (publish_one t (get_or ws i no_write))) after
+      → size ≡ size_of (get_or ws i no_write) → left ≡ limit - size
+      → Pushing j₀ block (publishing t left (i + 1) ws) after
+  unfolding publishing
+  push_one h a s e =
+      let w = get_or ws i no_write in
       rw (e, s, ← size_same t w, add-one)
       (pushing_more (take limit (publish_one t w))
-      (rw (drop-cons ws i no_write (omega arith), this, take_both limit (publish_one t w) (flat (publish_one t) (drop (suc i) ws))) at h) (a fine))
+      (rw (drop-cons ws i no_write lt, take_both limit (publish_one t w) (flat (publish_one t) (drop (suc i) ws))) at h) a)
 
--- of the final writes it is the definition's
-pub publishing_whole : (x : Tx) (limit : ℕ) → publishing x.txid.0 limit 0 (finals x) ≡ take limit (publication x)
-unfolding publishing publication
-publishing_whole x limit = refl
+-- from the first write on they are those of all
+pub publishing_whole : (t limit : ℕ) (ws : List Write) → publishing t limit 0 ws ≡ take limit (flat (publish_one t) ws)
+unfolding publishing
+publishing_whole t limit ws = refl

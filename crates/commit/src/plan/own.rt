@@ -1,29 +1,16 @@
 // The slots that a commit recycles, marked by their places.
 
-ghost use Rattle.std.specs.Prelude.{◌≡◌, map, take};
-ghost use Rattle.commit.specs.Plan.Own.{unmark_all, new_of};
+ghost use Rattle.std.specs.Prelude.{◌≡◌, false, map};
+ghost use Rattle.commit.specs.Plan.Own.{set_each, new_of};
 
-use fields::lent::clipped;
-use records::{SlotPtr, Tx, Write};
+use super::marks::mark_each;
+use records::{SlotPtr, Write};
 
-// The marks without the new slots of the first `count` writes.
-pub fn recycled_marks(
-    own: [bool; SlotPtr::PLACES],
-    at: [Write; Tx::WRITES],
-    count: usize,
-) -> [bool; SlotPtr::PLACES]
-    ensures { result ≡ unmark_all (map new_of (take count at)) own }
+// The marks without the new slots of these writes.
+pub fn recycled_marks(own: [bool; SlotPtr::PLACES], writes: &[Write]) -> [bool; SlotPtr::PLACES]
+    ensures { result ≡ set_each false (map new_of writes.now) own }
 {
-    let mut m = own;
-    let n = clipped(count, Tx::WRITES);
-    let mut i: usize = 0;
-    while i < n {
-        let w = at[i];
-        let p = w.new.0 as usize;
-        i += 1;
-        if p < SlotPtr::PLACES {
-            m[p] = false;
-        }
-    }
-    m
+    let mut marks = own;
+    mark_each(writes, |w| w.new.0 as usize, false, &mut marks);
+    marks
 }

@@ -1,61 +1,27 @@
-// Runs of puts of one kind, of listed postings.
+// Runs of puts, one for each listed posting.
 
-ghost use Rattle.std.specs.Prelude.{◌≡◌, false, ◌≤◌};
-ghost use Rattle.rules.specs.Puts.{last_kind};
-ghost use Rattle.journal.specs.Journal.{narrow};
+ghost use Rattle.std.specs.Prelude.{◌≡◌, map, reverse, ℕ, take};
+ghost use Rattle.rules.specs.Puts.{Put as RulesPut, put_remove};
+ghost use Rattle.journal.specs.Journal.{meant};
 ghost use Rattle.journal.specs.Adds.{Adds};
-ghost use Rattle.commit.specs.Plan.Pushes.{listed, listed_back};
 
-use fields::lent::clipped;
-use journal::Journal;
+use journal::{Journal, Put};
 
-// A put of one kind for each posting of a list, and no more than `limit`: insertions and removals.
-pub(crate) fn push_listed(
-    codes: &[u64],
-    kind: u64,
-    limit: usize,
-    j: &mut [u64; Journal::WORDS],
-    n: usize,
-) -> usize
-    ensures { kind ≤ last_kind → narrow kind ≡ false → Adds j.old n (listed kind limit 0 codes.now) j.new result }
+// The put of each posting: insertions and removals.
+pub(crate) fn push_listed<F: Fn(u64) -> Put>(codes: &[u64], put: F, j: &mut Journal)
+    requires { F.IsAlwaysCallable put }
+    ensures { (f : ℕ → RulesPut) → ((c : ℕ) (p : _) → F.post put c p → meant p ≡ f c) → Adds j.old (map f codes.now) j.new }
 {
-    let mut k = n;
-    let mut left = limit;
-    let mut i: usize = 0;
-    while i < codes.len() {
-        if left == 0 {
-            return k;
-        }
-        let c = codes[i];
-        i += 1;
-        left -= 1;
-        k = journal::push(j, k, kind, 0, c);
+    for c in codes {
+        j.push(put(*c));
     }
-    k
 }
 
-// The same for the first `from` postings of a list, the last first: rollback.
-pub(crate) fn push_back(
-    codes: &[u64],
-    from: usize,
-    kind: u64,
-    limit: usize,
-    j: &mut [u64; Journal::WORDS],
-    n: usize,
-) -> usize
-    ensures { kind ≤ last_kind → narrow kind ≡ false → Adds j.old n (listed_back kind limit from codes.now) j.new result }
+// The first `limit` removals of these postings, the last one first: rollback.
+pub(crate) fn push_back(codes: &[u64], limit: usize, j: &mut Journal)
+    ensures { Adds j.old (take limit (map put_remove (reverse codes.now))) j.new }
 {
-    let mut k = n;
-    let mut left = limit;
-    let mut i = clipped(from, codes.len());
-    while 0 < i {
-        if left == 0 {
-            return k;
-        }
-        i -= 1;
-        let c = codes[i];
-        left -= 1;
-        k = journal::push(j, k, kind, 0, c);
+    for i in (codes.len().saturating_sub(limit)..codes.len()).rev() {
+        j.push(Put::Remove(codes[i]));
     }
-    k
 }

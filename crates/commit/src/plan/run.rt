@@ -1,17 +1,17 @@
 // The puts of a run, from the gate that ends it: the stores made up to there, then those that end it.
 
-ghost use Rattle.std.specs.Prelude.{◌≡◌, Bool, true, false, ◌||◌, [], ◌∷◌, ◌≤◌, length, take};
-ghost use Rattle.records.specs.Limits.{places};
+ghost use Rattle.std.specs.Prelude.{◌≡◌, Bool, true, [], ◌∷◌, ◌≤◌, length, take};
+ghost use Rattle.records.specs.Limits.{places, write_limit};
 ghost use Rattle.rules.specs.Types.{Store, Tx, Schedule};
+ghost use Rattle.rules.specs.Transaction.{finals};
 ghost use Rattle.rules.specs.Chains.{walk};
 ghost use Rattle.rules.specs.Fit.{fit};
 ghost use Rattle.rules.specs.Puts.{put_drop};
 ghost use Rattle.rules.specs.Changes.{changes, destinations, index_guards, partition_guards};
-ghost use Rattle.rules.specs.Commit.{fails, poison, abort_or_poison, rollback};
+ghost use Rattle.rules.specs.Commit.{fails, poison, abort_or_poison, rollback, finish};
 ghost use Rattle.journal.specs.Adds.{Adds};
 ghost use Rattle.fields.specs.Lent.{at_places, flags_at_places};
 ghost use Rattle.steps.specs.GateTable.{partition_guards_failed, unlogged_check_failed, stamp_failed};
-ghost use Rattle.commit.specs.Plan.Moves.{codes_of};
 ghost use Rattle.commit.specs.Plan.Guards.{guarded_marks, partition_marks};
 ghost use Rattle.visibility.specs.OwnMarks.{own_marks};
 ghost use Rattle.commit.specs.Plan.Parts.{after, aborts_at, poisons_of, taken, passed, undoes, drops, lets, dies, puts_at};
@@ -19,17 +19,15 @@ ghost use Rattle.commit.specs.Plan.Planned.{plan_from, Planned, limit_at, struck
 
 use super::moves::Codes;
 use super::{blocks, guards, moves, own};
-use journal::Journal;
-use records::{RowId, SlotPtr, Store, Tx, Write};
+use journal::{Journal, Put};
+use records::{RowId, SlotPtr, Store, Tx, Txid, Write};
 use steps::gate::{Gate, left_at};
 use visibility::own_slots::own_marks;
 
-// What a commit stores if nothing ends it, and what it frees if it aborts.
-#[derive(Clone, Copy)]
+// What a commit stores if nothing ends it, besides its final writes, and what it frees if it aborts.
+#[derive(Drop)]
 pub struct Plan {
-    pub txid: u64,
-    pub at: [Write; Tx::WRITES],
-    pub count: usize,
+    pub txid: Txid,
     pub into: Codes,
     pub out: Codes,
     pub changed: [bool; Store::STRIPES],
@@ -57,38 +55,23 @@ pub struct Struck {
     pub poisoned: bool,
 }
 
-// The plan of a commit, from the arrays of the store that it reads, the marks of the walk, and the final writes.
-pub fn plan_of<'a>(
-    key: &'a [u32; SlotPtr::PLACES],
-    has: &'a [bool; SlotPtr::PLACES],
-    xmin: &'a [u64; SlotPtr::PLACES],
-    seen: &'a [u8; SlotPtr::PLACES],
-    x: Tx,
-    at: [Write; Tx::WRITES],
-    count: usize,
-) -> Plan
-    ensures { result ≡ plan_from (at_places key.now) (flags_at_places has.now) (at_places xmin.now)
-        (at_places seen.now) x at count }
+// The plan of a commit, from the store, the marks of the walk, and the final writes.
+pub fn plan_of(s: &Store, seen: &[u8; SlotPtr::PLACES], x: &Tx, writes: &[Write]) -> Plan
+    ensures { length writes.now ≤ write_limit
+        → result ≡ plan_from (at_places s.now.key) (flags_at_places s.now.has) (at_places s.now.xmin) (at_places seen.now) x.now writes.now }
 {
-    let m = moves::index_changes(key, has, at, count);
-    let into = m.into;
-    let out = m.out;
-    let changed = m.stripes;
-    let stripes = guards::guarded_stripes(x, changed);
-    let partitions = guards::guarded_partitions(x);
-    let mine = own_marks(xmin, seen, x.txid);
-    let recycled = own::recycled_marks(mine, at, count);
+    let moves = moves::index_changes(s, writes);
+    let changed = moves.stripes;
+    let own = own_marks(&s.xmin, seen, x.txid);
     Plan {
-        txid: x.txid.0,
-        at: at,
-        count: count,
-        into: into,
-        out: out,
-        changed: changed,
-        stripes: stripes,
-        partitions: partitions,
-        own: mine,
-        recycled: recycled,
+        txid: x.txid,
+        into: moves.into,
+        out: moves.out,
+        changed,
+        stripes: guards::guarded_stripes(x, changed),
+        partitions: guards::guarded_partitions(x),
+        own,
+        recycled: own::recycled_marks(own, writes),
     }
 }
 
@@ -106,224 +89,196 @@ fn limit_at(gate: usize, own: usize, k: usize) -> usize
 }
 
 // The stripes are taken once the partitions' turn has come, the partitions once the check after them has.
-fn take_stripes(
-    stripes: &[bool; Store::STRIPES],
-    gate: usize,
-    t: u64,
-    j: &mut [u64; Journal::WORDS],
-    n: usize,
-) -> usize
+fn take_stripes(stripes: &[bool; Store::STRIPES], gate: usize, t: Txid, j: &mut Journal)
     ensures { (S : Store) (x : Tx) → stripes.now ≡ guarded_marks (changes S x) x → fit S x ≡ true
-        → Adds j.old n (after partition_guards_failed gate (index_guards S x t)) j.new result }
+        → Adds j.old (after partition_guards_failed gate (index_guards S x t.0)) j.new }
 {
-    if gate < Gate::PARTITION_GUARDS_FAILED {
-        return n;
+    if Gate::PARTITION_GUARDS_FAILED <= gate {
+        blocks::push_index_guards(stripes, t, j);
     }
-    blocks::push_index_guards(stripes, t, j, n)
 }
 
-fn take_partitions(
-    partitions: &[bool; RowId::PARTITIONS],
-    gate: usize,
-    t: u64,
-    j: &mut [u64; Journal::WORDS],
-    n: usize,
-) -> usize
+fn take_partitions(partitions: &[bool; RowId::PARTITIONS], gate: usize, t: Txid, j: &mut Journal)
     ensures { (x : Tx) → partitions.now ≡ partition_marks x
-        → Adds j.old n (after unlogged_check_failed gate (partition_guards x t)) j.new result }
+        → Adds j.old (after unlogged_check_failed gate (partition_guards x t.0)) j.new }
 {
-    if gate < Gate::UNLOGGED_CHECK_FAILED {
-        return n;
+    if Gate::UNLOGGED_CHECK_FAILED <= gate {
+        blocks::push_partition_guards(partitions, t, j);
     }
-    blocks::push_partition_guards(partitions, t, j, n)
 }
 
-fn drop_txid(gate: usize, t: u64, j: &mut [u64; Journal::WORDS], n: usize) -> usize
-    ensures { Adds j.old n (after stamp_failed gate (put_drop t ∷ [])) j.new result }
+fn drop_txid(gate: usize, t: Txid, j: &mut Journal)
+    ensures { Adds j.old (after stamp_failed gate (put_drop t.0 ∷ [])) j.new }
 {
-    if gate < Gate::STAMP_FAILED {
-        return n;
+    if Gate::STAMP_FAILED <= gate {
+        j.push(Put::Drop(t));
     }
-    blocks::push_drop(t, j, n)
 }
 
 // Guards and postings.
-fn push_taken(p: Plan, s: Struck, gate: usize, j: &mut [u64; Journal::WORDS], n: usize) -> usize
-    ensures { (S : Store) (x : Tx) (logged : Bool) (plan : Schedule) → Planned S x logged plan p s
-        → Adds j.old n (taken S x logged plan gate) j.new result }
+fn push_taken(p: &Plan, s: &Struck, gate: usize, j: &mut Journal)
+    ensures { (S : Store) (x : Tx) (logged : Bool) (plan : Schedule) → Planned S x logged plan p.now s.now
+        → Adds j.old (taken S x logged plan gate) j.new }
 {
-    let a = take_stripes(&p.stripes, gate, p.txid, j, n);
-    let b = take_partitions(&p.partitions, gate, p.txid, j, a);
-    let i = limit_at(gate, Gate::INSERT_FAILED, s.inserted);
-    let c = blocks::push_insertions(p.into, i, j, b);
-    let o = limit_at(gate, Gate::REMOVE_FAILED, s.removed);
-    blocks::push_removals(p.out, o, j, c)
+    take_stripes(&p.stripes, gate, p.txid, j);
+    take_partitions(&p.partitions, gate, p.txid, j);
+    blocks::push_insertions(&p.into, limit_at(gate, Gate::INSERT_FAILED, s.inserted), j);
+    blocks::push_removals(&p.out, limit_at(gate, Gate::REMOVE_FAILED, s.removed), j);
 }
 
 // Rows, the active list and stamps.
-fn push_passed(p: Plan, s: Struck, gate: usize, j: &mut [u64; Journal::WORDS], n: usize) -> usize
-    ensures { (S : Store) (x : Tx) (logged : Bool) (plan : Schedule) → Planned S x logged plan p s
-        → Adds j.old n (passed S x logged plan gate) j.new result }
+fn push_passed(p: &Plan, writes: &[Write], s: &Struck, gate: usize, j: &mut Journal)
+    ensures { (S : Store) (x : Tx) (logged : Bool) (plan : Schedule) → Planned S x logged plan p.now s.now → writes.now ≡ finals x
+        → Adds j.old (passed S x logged plan gate) j.new }
 {
-    let w = limit_at(gate, Gate::PUBLISH_FAILED, s.published);
-    let at = p.at;
-    let a = blocks::push_publication(at, p.count, p.txid, w, j, n);
-    let f = limit_at(gate, Gate::RECYCLE_FAILED, s.recycled);
-    let b = blocks::push_recycling(&p.recycled, f, j, a);
-    let c = drop_txid(gate, p.txid, j, b);
-    let m = limit_at(gate, Gate::STAMP_FAILED, s.stamped);
-    blocks::push_stamping(&p.changed, p.txid, m, j, c)
+    blocks::push_publication(
+        writes,
+        p.txid,
+        limit_at(gate, Gate::PUBLISH_FAILED, s.published),
+        j,
+    );
+    blocks::push_recycling(
+        &p.recycled,
+        limit_at(gate, Gate::RECYCLE_FAILED, s.recycled),
+        j,
+    );
+    drop_txid(gate, p.txid, j);
+    blocks::push_stamping(
+        &p.changed,
+        p.txid,
+        limit_at(gate, Gate::STAMP_FAILED, s.stamped),
+        j,
+    );
 }
 
 // A store that is poisoned already is not poisoned again.
-fn poison_unless(already: bool, j: &mut [u64; Journal::WORDS], n: usize) -> usize
-    ensures { Adds j.old n (poison already) j.new result }
+fn poison_unless(already: bool, j: &mut Journal)
+    ensures { Adds j.old (poison already) j.new }
 {
-    if already {
-        return n;
+    if !already {
+        j.push(Put::Poison);
     }
-    blocks::push_poison(j, n)
 }
 
 // The poison at the gate, or the doom.
-fn push_poisons(bad: bool, t: u64, gate: usize, j: &mut [u64; Journal::WORDS], n: usize) -> usize
-    ensures { Adds j.old n (poisons_of bad t gate) j.new result }
+fn push_poisons(bad: bool, t: Txid, gate: usize, j: &mut Journal)
+    ensures { Adds j.old (poisons_of bad t.0 gate) j.new }
 {
     match gate {
-        Gate::CALLBACK_ENDED => poison_unless(!bad, j, n),
-        Gate::REMOVE_FAILED => blocks::push_poison(j, n),
-        Gate::STAMP_FAILED => blocks::push_poison(j, n),
-        Gate::PUBLISH_FAILED => blocks::push_doom(t, j, n),
-        Gate::RECYCLE_FAILED => blocks::push_doom(t, j, n),
-        Gate::FINISH_FAILED => blocks::push_doom(t, j, n),
-        _ => n,
+        Gate::CALLBACK_ENDED => poison_unless(!bad, j),
+        // an arm for each: of numbers joined by `|` a proof learns nothing
+        Gate::REMOVE_FAILED => j.push(Put::Poison),
+        Gate::STAMP_FAILED => j.push(Put::Poison),
+        Gate::PUBLISH_FAILED => j.push(Put::Doom(t)),
+        Gate::RECYCLE_FAILED => j.push(Put::Doom(t)),
+        Gate::FINISH_FAILED => j.push(Put::Doom(t)),
+        _ => {}
     }
 }
 
 // The first `made` insertions taken back; where that fails, some of them, and the store is poisoned.
-fn roll_back(
-    into: Codes,
-    made: usize,
-    s: Struck,
-    already: bool,
-    j: &mut [u64; Journal::WORDS],
-    n: usize,
-) -> usize
-    ensures { (S : Store) (x : Tx) (logged : Bool) (plan : Schedule) → into ≡ codes_of (destinations (changes S x)) → s ≡ struck_of S x logged plan
-        → fit S x ≡ true → Adds j.old n (rollback S x logged plan already (take made (destinations (changes S x)))).puts j.new result }
+fn roll_back(into: &Codes, made: usize, s: &Struck, already: bool, j: &mut Journal)
+    ensures { (S : Store) (x : Tx) (logged : Bool) (plan : Schedule) → into.now ≡ destinations (changes S x) → s.now ≡ struck_of S x logged plan
+        → fit S x ≡ true → Adds j.old (rollback S x logged plan already (take made (destinations (changes S x)))).puts j.new }
 {
     if s.rollback {
-        let k = blocks::push_rollback(into, made, s.rolled, j, n);
-        return poison_unless(already, j, k);
+        blocks::push_rollback(into, made, s.rolled, j);
+        poison_unless(already, j);
+    } else {
+        blocks::push_rollback(into, made, Journal::PUTS, j);
     }
-    blocks::push_rollback(into, made, Journal::PUTS, j, n)
 }
 
 // The abort; where it fails, the store is poisoned.
-fn abort_or_poison(
-    own: &[bool; SlotPtr::PLACES],
-    t: u64,
-    failing: bool,
-    already: bool,
-    j: &mut [u64; Journal::WORDS],
-    n: usize,
-) -> usize
-    ensures { (S : Store) (x : Tx) (logged : Bool) (plan : Schedule) → own.now ≡ own_marks S.xmin (walk S.heads S.next).seen t
-        → t ≡ x.txid.0 → failing ≡ fails S x logged plan 23 → length S.xmin ≤ places
-        → Adds j.old n (abort_or_poison S x logged plan already).puts j.new result }
+fn abort_or_poison(p: &Plan, failing: bool, already: bool, j: &mut Journal)
+    ensures { (S : Store) (x : Tx) (logged : Bool) (plan : Schedule) → p.now.own ≡ own_marks S.xmin (walk S.heads S.next).seen p.now.txid.0
+        → p.now.txid ≡ x.txid → failing ≡ fails S x logged plan 23 → length S.xmin ≤ places
+        → Adds j.old (abort_or_poison S x logged plan already).puts j.new }
 {
     if failing {
-        return poison_unless(already, j, n);
+        poison_unless(already, j);
+    } else {
+        blocks::push_abort(&p.own, p.txid, j);
     }
-    blocks::push_abort(own, t, j, n)
 }
 
 // Insertions taken back, where a callback or an insertion fails.
-fn push_undoes(p: Plan, s: Struck, gate: usize, j: &mut [u64; Journal::WORDS], n: usize) -> usize
-    ensures { (S : Store) (x : Tx) (logged : Bool) (plan : Schedule) → Planned S x logged plan p s
-        → Adds j.old n (undoes S x logged plan gate) j.new result }
+fn push_undoes(p: &Plan, s: &Struck, gate: usize, j: &mut Journal)
+    ensures { (S : Store) (x : Tx) (logged : Bool) (plan : Schedule) → Planned S x logged plan p.now s.now
+        → Adds j.old (undoes S x logged plan gate) j.new }
 {
-    if gate == Gate::INSERT_FAILED {
-        return roll_back(p.into, s.inserted, s, false, j, n);
+    match gate {
+        Gate::INSERT_FAILED => roll_back(&p.into, s.inserted, s, false, j),
+        Gate::CALLBACK_ENDED => roll_back(&p.into, Tx::WRITES, s, s.worse, j),
+        _ => {}
     }
-    if gate == Gate::CALLBACK_ENDED {
-        return roll_back(p.into, Tx::WRITES, s, s.worse, j, n);
-    }
-    n
 }
 
-pub fn either(a: bool, b: bool) -> bool
-    ensures { result ≡ (a || b) }
+// The drop of the txid, unless it fails.
+fn finish(p: &Plan, s: &Struck, j: &mut Journal)
+    ensures { (S : Store) (x : Tx) (logged : Bool) (plan : Schedule) → Planned S x logged plan p.now s.now
+        → Adds j.old (finish S x logged plan) j.new }
 {
-    if a { true } else { b }
+    if !s.finish {
+        j.push(Put::Drop(p.txid));
+    }
 }
 
 // The abort of a failed callback; the finish of a failed publication or recycling.
-fn push_drops(p: Plan, s: Struck, gate: usize, j: &mut [u64; Journal::WORDS], n: usize) -> usize
-    ensures { (S : Store) (x : Tx) (logged : Bool) (plan : Schedule) → Planned S x logged plan p s
-        → Adds j.old n (drops S x logged plan gate) j.new result }
+fn push_drops(p: &Plan, s: &Struck, gate: usize, j: &mut Journal)
+    ensures { (S : Store) (x : Tx) (logged : Bool) (plan : Schedule) → Planned S x logged plan p.now s.now
+        → Adds j.old (drops S x logged plan gate) j.new }
 {
-    if gate == Gate::CALLBACK_ENDED {
-        let already = either(s.worse, s.rollback);
-        return abort_or_poison(&p.own, p.txid, s.abort, already, j, n);
+    match gate {
+        Gate::CALLBACK_ENDED => abort_or_poison(p, s.abort, s.worse || s.rollback, j),
+        Gate::PUBLISH_FAILED => finish(p, s, j),
+        Gate::RECYCLE_FAILED => finish(p, s, j),
+        _ => {}
     }
-    if gate < Gate::PUBLISH_FAILED {
-        return n;
-    }
-    if Gate::RECYCLE_FAILED < gate {
-        return n;
-    }
-    if s.finish {
-        return n;
-    }
-    blocks::push_drop(p.txid, j, n)
 }
 
 // The guards let go that are held.
-fn push_lets(p: Plan, gate: usize, j: &mut [u64; Journal::WORDS], n: usize) -> usize
-    ensures { (S : Store) (x : Tx) (logged : Bool) (plan : Schedule) → p.stripes ≡ guarded_marks (changes S x) x
-        → p.partitions ≡ partition_marks x → fit S x ≡ true → Adds j.old n (lets S x logged plan gate) j.new result }
+fn push_lets(p: &Plan, gate: usize, j: &mut Journal)
+    ensures { (S : Store) (x : Tx) (logged : Bool) (plan : Schedule) → p.now.stripes ≡ guarded_marks (changes S x) x
+        → p.now.partitions ≡ partition_marks x → fit S x ≡ true → Adds j.old (lets S x logged plan gate) j.new }
 {
     if gate < Gate::PARTITION_GUARDS_FAILED {
-        return n;
+        return;
     }
     if gate < Gate::UNLOGGED_CHECK_FAILED {
-        return blocks::push_index_guards(&p.stripes, 0, j, n);
+        blocks::push_index_guards(&p.stripes, Txid::NONE, j);
+    } else {
+        blocks::push_release(&p.stripes, &p.partitions, j);
     }
-    blocks::push_release(&p.stripes, &p.partitions, j, n)
 }
 
 // Whether a gate aborts at once: a callback's does so later, after the rollback.
 fn aborts_at(gate: usize) -> bool
     ensures { result ≡ aborts_at gate }
 {
-    if gate == Gate::CALLBACK_ENDED {
-        return false;
-    }
-    left_at(gate) == Gate::BY_ABORT
+    gate != Gate::CALLBACK_ENDED && left_at(gate) == Gate::BY_ABORT
 }
 
 // The abort of the gates up to the tests.
-fn push_dies(p: Plan, s: Struck, gate: usize, j: &mut [u64; Journal::WORDS], n: usize) -> usize
-    ensures { (S : Store) (x : Tx) (logged : Bool) (plan : Schedule) → Planned S x logged plan p s
-        → Adds j.old n (dies S x logged plan gate) j.new result }
+fn push_dies(p: &Plan, s: &Struck, gate: usize, j: &mut Journal)
+    ensures { (S : Store) (x : Tx) (logged : Bool) (plan : Schedule) → Planned S x logged plan p.now s.now
+        → Adds j.old (dies S x logged plan gate) j.new }
 {
     if aborts_at(gate) {
-        return abort_or_poison(&p.own, p.txid, s.abort, s.poisoned, j, n);
+        abort_or_poison(p, s.abort, s.poisoned, j);
     }
-    n
 }
 
 // All the puts of a run that ends at the gate.
-pub fn push_run(p: Plan, s: Struck, gate: usize, j: &mut [u64; Journal::WORDS], n: usize) -> usize
-    ensures { (S : Store) (x : Tx) (logged : Bool) (plan : Schedule) → Planned S x logged plan p s
-        → Adds j.old n (puts_at S x logged plan gate) j.new result }
+pub fn push_run(p: &Plan, writes: &[Write], s: &Struck, gate: usize, j: &mut Journal)
+    ensures { (S : Store) (x : Tx) (logged : Bool) (plan : Schedule) → Planned S x logged plan p.now s.now → writes.now ≡ finals x
+        → Adds j.old (puts_at S x logged plan gate) j.new }
 {
-    let a = push_taken(p, s, gate, j, n);
-    let b = push_passed(p, s, gate, j, a);
-    let c = push_poisons(s.worse, p.txid, gate, j, b);
-    let d = push_undoes(p, s, gate, j, c);
-    let e = push_drops(p, s, gate, j, d);
-    let f = push_lets(p, gate, j, e);
-    push_dies(p, s, gate, j, f)
+    push_taken(p, s, gate, j);
+    push_passed(p, writes, s, gate, j);
+    push_poisons(s.worse, p.txid, gate, j);
+    push_undoes(p, s, gate, j);
+    push_drops(p, s, gate, j);
+    push_lets(p, gate, j);
+    push_dies(p, s, gate, j);
 }

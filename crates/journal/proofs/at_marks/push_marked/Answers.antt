@@ -13,7 +13,9 @@ returns-then-left-eq0 g c = λ f e. pushing_end (c.loop-i.invariant f e) (marked
 
 pub loop-i-preserved : goal.loop-i-preserved
 loop-i-preserved g c = λ f e. elim c.if-mark.branch [
-  | then-mark w ↦ rw (w.j-is, w.left-is) (push_mark f _ _ _ (omega arith) (c.loop-i.invariant f e) (omega arith) w.if-mark.true (e _ _ (omega arith) (search rules)) w.push.ensures)
+  | then-mark w ↦
+      rw (w.j-is, w.left-is)
+      (push_mark f _ _ _ (omega arith) (c.loop-i.invariant f e) (omega arith) w.if-mark.true (e _ _ (omega arith) (search rules)) w.push.ensures)
   | else-mark w ↦ rw (w.j-is, w.left-is) (pass_mark f _ _ _ (omega arith) (c.loop-i.invariant f e) w.if-mark.false)
 ]
 

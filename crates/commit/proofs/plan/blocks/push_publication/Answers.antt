@@ -1,6 +1,9 @@
 -- `push_publication` meets its contract.
-use Rattle.commit.specs.Plan.Blocks.{publishes}
+use Rattle.std.proofs.Common.{ap}
+use Rattle.rules.specs.Changes.{publication}
+use Rattle.rules.specs.Types.{Txid}
 use Rattle.commit.proofs.plan.blocks.push_publication.Goals as goal
 
 pub returns : goal.returns
-returns c = λ S x e f ok. publishes S x _ _ e f ok c.push_writes.ensures
+unfolding publication
+returns c = λ x e f. rw (e, ap (λ (t : Txid). t.0) f) at c.push_writes.ensures

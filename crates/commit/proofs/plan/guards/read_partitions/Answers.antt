@@ -1,24 +1,10 @@
--- `read_partitions` meets its contract: the reads from place i on, marked besides those marked so far, make the marks of all.
-use mathlib.Core.Path.{refl, sym, ◌∙◌}
-use native.Mathlib.Omega.{arith}
-use Rattle.records.specs.Zero.{no_read}
-use Rattle.fields.specs.First.{first_from, first_next, first_end}
-use Rattle.fields.proofs.Lengths.{reads_long}
-use Rattle.fields.specs.Marks.{mark_next}
+-- `read_partitions` meets its contract.
+use Rattle.std.proofs.Common.{rules, ◌∙◌, map}
+use Rattle.rules.specs.Transaction.{reads_of}
+use Rattle.commit.specs.Plan.Own.{marked_each}
 use Rattle.commit.specs.Plan.Guards.{partition_read}
 use Rattle.commit.proofs.plan.guards.read_partitions.Goals as goal
 
-pub loop-i-init : goal.loop-i-init
-unfolding first_from
-loop-i-init c = (omega arith, c.clipped-n.ensures, refl)
-
-pub loop-i-preserved : goal.loop-i-preserved
-loop-i-preserved c =
-    let long = reads_long c.args.x c.well_formed.0 in
-    (omega arith, omega arith, sym (mark_next partition_read _ _ _ _ (first_next _ _ _ no_read (omega arith))) ∙ c.loop-i.invariant.2)
-
 pub returns : goal.returns
 returns c =
-    let x = c.args.x in
-    let long = reads_long x c.well_formed.0 in
-    rw (first_end x.read_count x.reads c.loop-i.i (omega arith)) at c.loop-i.invariant.2
+    rw c.first.ensures at (c.mark_each.ensures partition_read (λ x p e. search rules)) ∙ marked_each (map partition_read (reads_of c.args.x.now)) c.args.written

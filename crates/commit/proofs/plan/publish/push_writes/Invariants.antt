@@ -1,20 +1,11 @@
 -- `push_writes` meets its contract. The invariant: what is pushed so far and what is left are the block.
-use mathlib.Core.Path.{◌≡◌}
-use mathlib.Core.Bool.{true}
-use Prim.Native.Nat.{◌≤◌, ◌-◌, min}
-use lib.ListN.{take}
-use Rattle.records.specs.Limits.{write_limit}
-use Rattle.rules.specs.Lists.{all}
-use Rattle.commit.specs.Plan.Plain.{plain}
+use Rattle.std.proofs.Common.{take}
+use Rattle.rules.specs.Lists.{flat}
+use Rattle.rules.specs.Changes.{publish_one}
 use Rattle.journal.specs.Pushing.{Pushing}
 use Rattle.commit.specs.Plan.Publish.{publishing}
 use Rattle.commit.proofs.plan.publish.push_writes.Given as goal
 
-abbrev pub invariant-loop-i : goal.invariant-loop-i
-invariant-loop-i l =
-    (l.i ≤ l.end) × (l.end ≡ min l.count write_limit)
-    × (all plain (take l.count l.at) ≡ true
-    → Pushing l.initial.j l.n (publishing l.t l.limit 0 (take l.count l.at)) (publishing l.t l.left l.i (take l.count l.at)) l.j l.k)
-
-abbrev pub decreases-loop-i : goal.decreases-loop-i
-decreases-loop-i l = l.end - l.i
+abbrev pub invariant-loop-w : goal.invariant-loop-w
+invariant-loop-w l =
+    Pushing l.initial.j (take l.limit (flat (publish_one l.t.0) l.writes)) (publishing l.t.0 l.left l.w-index l.writes) l.j

@@ -1,9 +1,10 @@
 -- `size_of` meets its contract: by whether the write has a base.
+use Rattle.std.proofs.Common.{rules}
 use Rattle.commit.specs.Plan.Publish.{size_new, size_over}
 use Rattle.commit.proofs.plan.publish.size_of.Goals as goal
 
-pub returns-then-w-eq0 : goal.returns-then-w-eq0
-returns-then-w-eq0 c = size_new _ c.if-w-eq0.true
+pub returns-then-eq : goal.returns-then-eq
+returns-then-eq c = size_new _ (search rules)
 
-pub returns-else-w-eq0 : goal.returns-else-w-eq0
-returns-else-w-eq0 c = size_over _ c.if-w-eq0.false
+pub returns-else-eq : goal.returns-else-eq
+returns-else-eq c = size_over _ (search rules)

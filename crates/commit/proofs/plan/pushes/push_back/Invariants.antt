@@ -1,19 +1,11 @@
 -- `push_back` meets its contract. The invariant: what is pushed so far and what is left are the block.
-use mathlib.Core.Path.{◌≡◌}
-use mathlib.Core.Bool.{false}
-use Prim.Native.Nat.{◌≤◌}
-use lib.ListN.{length}
-use Rattle.rules.specs.Puts.{last_kind}
-use Rattle.journal.specs.Journal.{narrow}
+use Rattle.std.proofs.Common.{◌-◌, length, map, reverse, take}
+use Rattle.rules.specs.Puts.{put_remove}
 use Rattle.journal.specs.Pushing.{Pushing}
 use Rattle.commit.specs.Plan.Pushes.{listed_back}
 use Rattle.commit.proofs.plan.pushes.push_back.Given as goal
 
 abbrev pub invariant-loop-i : goal.invariant-loop-i
 invariant-loop-i l =
-    (l.i ≤ length l.codes)
-    × (l.kind ≤ last_kind → narrow l.kind ≡ false
-    → Pushing l.initial.j l.n (listed_back l.kind l.limit l.from l.codes) (listed_back l.kind l.left l.i l.codes) l.j l.k)
-
-abbrev pub decreases-loop-i : goal.decreases-loop-i
-decreases-loop-i l = l.i
+    Pushing l.initial.j (take l.limit (map put_remove (reverse l.codes)))
+    (listed_back put_remove (l.i - (length l.codes - l.limit)) l.i l.codes) l.j

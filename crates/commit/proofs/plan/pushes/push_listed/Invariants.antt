@@ -1,18 +1,11 @@
 -- `push_listed` meets its contract. The invariant: what is pushed so far and what is left are the block.
-use mathlib.Core.Path.{◌≡◌}
-use mathlib.Core.Bool.{false}
-use Prim.Native.Nat.{◌≤◌, ◌-◌}
-use lib.ListN.{length}
-use Rattle.rules.specs.Puts.{last_kind}
-use Rattle.journal.specs.Journal.{narrow}
+use Rattle.std.proofs.Common.{◌≡◌, ℕ, map, drop}
+use Rattle.rules.specs.Puts.{Put}
+use Rattle.journal.specs.Journal.{meant}
 use Rattle.journal.specs.Pushing.{Pushing}
-use Rattle.commit.specs.Plan.Pushes.{listed}
 use Rattle.commit.proofs.plan.pushes.push_listed.Given as goal
 
-abbrev pub invariant-loop-i : goal.invariant-loop-i
-invariant-loop-i l =
-    (l.i ≤ length l.codes)
-    × (l.kind ≤ last_kind → narrow l.kind ≡ false → Pushing l.initial.j l.n (listed l.kind l.limit 0 l.codes) (listed l.kind l.left l.i l.codes) l.j l.k)
-
-abbrev pub decreases-loop-i : goal.decreases-loop-i
-decreases-loop-i l = length l.codes - l.i
+abbrev pub invariant-loop-c : goal.invariant-loop-c
+invariant-loop-c g l =
+    (f : ℕ → Put) → ((c : ℕ) (p : _) → goal.F-post g l.put c p → meant p ≡ f c)
+    → Pushing l.initial.j (map f l.codes) (map f (drop l.c-index l.codes)) l.j

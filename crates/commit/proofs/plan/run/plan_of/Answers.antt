@@ -4,8 +4,8 @@ use Rattle.commit.specs.Plan.Planned.{plan_from_law}
 use Rattle.commit.proofs.plan.run.plan_of.Goals as goal
 
 pub returns : goal.returns
-returns c =
+returns c = λ few.
     let a = c.args in
-    plan_from_law a.x (at_places a.key.now) (at_places a.xmin.now) (at_places a.seen.now) (flags_at_places a.has.now) a.at a.count
-    c.index_changes-m.ensures c.guarded_stripes-stripes.ensures
-    c.guarded_partitions-partitions.ensures c.own_marks-mine.ensures c.recycled_marks-recycled.ensures
+    plan_from_law a.x.now (at_places a.s.now.key) (at_places a.s.now.xmin) (at_places a.seen.now) (flags_at_places a.s.now.has) a.writes.now
+    (c.index_changes-moves.ensures few) c.guarded_stripes.ensures
+    c.guarded_partitions.ensures c.own_marks-own.ensures c.recycled_marks.ensures

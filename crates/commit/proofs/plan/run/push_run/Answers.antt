@@ -5,10 +5,10 @@ use Rattle.commit.proofs.plan.run.push_run.Goals as goal
 
 pub returns : goal.returns
 returns c =
-    λ S x logged plan h.
-    run_put h _ (c.push_taken-a.ensures S x logged plan h)
-    (c.push_passed-b.ensures S x logged plan h)
-    c.push_poisons-c.ensures
-    (c.push_undoes-d.ensures S x logged plan h)
-    (c.push_drops-e.ensures S x logged plan h)
-    (c.push_lets-f.ensures S x logged plan (stripes_are_law h) (partitions_are_law h) h.fits) (c.push_dies.ensures S x logged plan h)
+    λ S x logged plan h ws.
+    run_put h _ (c.push_taken.ensures S x logged plan h)
+    (c.push_passed.ensures S x logged plan h ws)
+    c.push_poisons.ensures
+    (c.push_undoes.ensures S x logged plan h)
+    (c.push_drops.ensures S x logged plan h)
+    (c.push_lets.ensures S x logged plan (stripes_are_law h) (partitions_are_law h) h.fits) (c.push_dies.ensures S x logged plan h)

@@ -5,8 +5,8 @@ use Rattle.commit.proofs.plan.run.push_taken.Goals as goal
 pub returns : goal.returns
 returns c =
     λ S x logged plan h. taken_put h _
-    (c.take_stripes-a.ensures S x (stripes_are_law h) h.fits)
-    (c.take_partitions-b.ensures x (partitions_are_law h))
-    c.limit_at-i.ensures
-    (c.push_insertions-c.ensures S x (into_is h) h.fits) c.limit_at-o.ensures
-    (c.push_removals.ensures S x (out_is h) h.fits)
+    (c.take_stripes.ensures S x (stripes_are_law h) h.fits)
+    (c.take_partitions.ensures x (partitions_are_law h))
+    c.limit_at.ensures
+    (c.push_insertions.ensures S x (into_is h)) c.limit_at-2.ensures
+    (c.push_removals.ensures S x (out_is h))

@@ -5,9 +5,9 @@ use Rattle.commit.proofs.plan.run.roll_back.Goals as goal
 pub returns-then-s : goal.returns-then-s
 returns-then-s c =
     λ S x logged plan e q ok. rolled_part S x logged plan _ _ q ok c.args.made
-    c.if-s.true (c.push_rollback-k.ensures S x e ok) c.poison_unless.ensures
+    c.if-s.true (c.push_rollback.ensures S x e) c.poison_unless.ensures
 
-pub returns : goal.returns
-returns c =
+pub returns-else-s : goal.returns-else-s
+returns-else-s c =
     λ S x logged plan e q ok.
-    rolled_whole S x logged plan _ _ q ok c.args.made c.if-s.false (c.push_rollback.ensures S x e ok)
+    rolled_whole S x logged plan _ _ q ok c.args.made c.if-s.false (c.push_rollback-else-s.ensures S x e)

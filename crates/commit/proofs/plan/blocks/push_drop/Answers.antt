@@ -1,9 +1,0 @@
--- `push_drop` meets its contract: one put.
-use mathlib.Core.Path.{refl}
-use native.Mathlib.Omega.{arith}
-use Rattle.rules.specs.Puts.{k_drop}
-use Rattle.commit.specs.Plan.Blocks.{one_put}
-use Rattle.commit.proofs.plan.blocks.push_drop.Goals as goal
-
-pub returns : goal.returns
-returns c = one_put k_drop _ (omega arith) refl c.push.ensures
