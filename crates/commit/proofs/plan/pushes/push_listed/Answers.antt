@@ -10,6 +10,3 @@ loop-c-init g c = λ f e. pushing_start _ _
 pub loop-c-preserved : goal.loop-c-preserved
 loop-c-preserved g c =
     λ f e. push_listed f c.args.codes.now c.loop-c.c-index (c.loop-c.invariant f e) (omega arith) (e _ _ (search rules)) c.push.ensures
-
-pub returns : goal.returns
-returns g c = λ f e. pushing_end (c.loop-c.invariant f e) (listed_end f c.args.codes.now c.loop-c.c-index (omega arith))
