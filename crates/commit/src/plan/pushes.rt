@@ -21,7 +21,7 @@ pub(crate) fn push_listed<F: Fn(u64) -> Put>(codes: &[u64], put: F, j: &mut Jour
 pub(crate) fn push_back(codes: &[u64], limit: usize, j: &mut Journal)
     ensures { Adds j.old (take limit (map put_remove (reverse codes.now))) j.new }
 {
-    for i in (codes.len().saturating_sub(limit)..codes.len()).rev() {
-        j.push(Put::Remove(codes[i]));
+    for c in codes.iter().rev().take(limit) {
+        j.push(Put::Remove(*c));
     }
 }

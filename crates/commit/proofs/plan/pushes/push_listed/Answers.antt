@@ -1,7 +1,7 @@
 -- `push_listed` meets its contract. The invariant: what is pushed so far and what is left are the block.
 use Rattle.std.proofs.Common.{rules, arith}
-use Rattle.journal.specs.Pushing.{pushing_start, pushing_end}
-use Rattle.commit.specs.Plan.Pushes.{push_listed, listed_end}
+use Rattle.journal.specs.Pushing.{pushing_start}
+use Rattle.commit.specs.Plan.Pushes.{push_listed}
 use Rattle.commit.proofs.plan.pushes.push_listed.Goals as goal
 
 pub loop-c-init : goal.loop-c-init
