@@ -46,7 +46,7 @@ pub fn row_lock(s: Store, x: Tx, r: RowId) -> Reply
     ensures { result ≡ row_lock s x r.0 }
 {
     let head = head_of(&s.heads, r);
-    let locked = locked_by_another(&s.locked, &s.owner, &s.active, x.txid, head);
+    let locked = locked_by_another(&s, x.txid, head);
     let tried = admitted(s, x, true);
     let first = healthy(tried, s.poisoned);
     let why = lock_refusal(first, r, head, locked);

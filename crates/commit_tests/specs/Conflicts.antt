@@ -1,8 +1,12 @@
 -- The four tests of commit, entry by entry, on a store whose fields are lent: what a test answers from the place where it stands.
-use Rattle.std.specs.Prelude.{◌≡◌, Bool, true, false, not, cond, ◌&&◌, ◌||◌, List, [], ◌∷◌, map, ℕ, ◌+◌, get_or, eqb, leb}
+use Rattle.std.specs.Prelude.{◌≡◌, Bool, true, false, not, cond, ◌&&◌, ◌||◌, List, [], ◌∷◌, map, ℕ, suc, ◌+◌, get_or, length, position, eqb, leb, ltb, Option, Some, None, option_map}
 use Rattle.std.proofs.Math.Nat.{add-zero, add-suc, suc-add}
 use Rattle.std.proofs.Common.{zero-add}
 use Rattle.std.proofs.Math.Numerals.{add-one}
+use Rattle.std.specs.List.{position_or_len}
+use Rattle.std.proofs.Common.{refl, sym, ap, ◌∙◌, arith}
+use Rattle.std.proofs.lemmas.Bool.{lt-ltb}
+use Rattle.basic_laws.specs.Cases.{by}
 use Rattle.basic_laws.specs.FirstTrue.{yes, yes_map, yes_finals}
 use Rattle.rules.specs.Lists.{any, memb, first_true}
 use Rattle.rules.specs.Types.{Store, Tx, ReadRecord}
@@ -10,14 +14,43 @@ use Rattle.rules.specs.Transaction.{writes_of, index_reads_of, snapshot_of}
 use Rattle.rules.specs.Tests.{stamp_differs, read_conflict, base_moved, finals_that}
 use Rattle.rules.specs.Tests.{index_read_conflict, write_base_conflict, index_read_place, write_base_place}
 use Rattle.fields.specs.Lent.{at_rows, at_places, flags_at_places, at_active, at_stripes}
-use Rattle.commit_tests.specs.declared.conflicts.Tested.{Tested}
 
--- whether an entry conflicts, and the place of the first that does
-abbrev pub tested : Bool → ℕ → Tested
-tested b p = record { yes = b; place = p }
+-- if an entry conflicts, the place of the first that does
+abbrev pub tested : Bool → ℕ → Option ℕ
+tested true p = Some p
+tested false p = None
+
+-- the same one place later
+pub later_place : (b : Bool) (p : ℕ) → option_map (λ k. k + 1) (tested b p) ≡ tested b (suc p)
+later_place true p = ap Some (omega arith)
+later_place false p = refl
+
+-- the library's words for the first place
+pub position_tested : {A : Type 0} (f : A → Bool) (l : List A)
+    → position f l ≡ tested (any f l) (first_true (map f l))
+position_tested f [] = refl
+position_tested {A} f (a ∷ l) = by (f a) (λ e. rw e here) (λ e. rw e (go (position_tested f l)))
+  where
+    here : cond {A = Option ℕ} (ltb 0 (suc (length l))) (Some 0) None ≡ Some 0
+    here = rw (lt-ltb 0 (suc (length l)) (omega arith))
+
+    later : (b : Bool) (n : ℕ) → option_map (λ k. k + 1) (cond b (Some n) None) ≡ cond b (Some (1 + n)) None
+    later true n = ap Some (omega arith)
+    later false n = refl
+
+    shift : (n m : ℕ) → ltb (1 + n) (suc m) ≡ ltb n m
+    shift n m = grind arith
+
+    go : cond (ltb (position_or_len f l) (length l)) (Some (position_or_len f l)) None ≡ tested (any f l) (first_true (map f l))
+        → cond (ltb (1 + position_or_len f l) (suc (length l))) (Some (1 + position_or_len f l)) None ≡ tested (any f l) (suc (first_true (map f l)))
+    go e = rw (shift (position_or_len f l) (length l)) (sym (later _ _) ∙ ap (option_map (λ k. k + 1)) e ∙ later_place (any f l) _)
+
+-- so the library's first place of a test answers that test
+pub first_place : {A : Type 0} (f : A → Bool) (l : List A) {r : Option ℕ} → r ≡ position f l → r ≡ tested (any f l) (first_true (map f l))
+first_place f l s = s ∙ position_tested f l
 
 -- what a test answers that has come to place i, of the entries from there on
-unfoldable pub answer_from : ℕ → List Bool → Tested
+unfoldable pub answer_from : ℕ → List Bool → Option ℕ
 answer_from i bs = tested (yes bs) (i + first_true bs)
 
 -- the entry at i conflicts, or the later ones decide, or there is none
@@ -32,7 +65,7 @@ module _ (i : ℕ) (l : List Bool) {b : Bool} {bs : List Bool} (next : l ≡ b �
 
 pub answer_none : (i : ℕ) (l : List Bool) → l ≡ [] → answer_from i l ≡ tested false i
 unfolding answer_from
-answer_none i l e = rw (e, add-zero i)
+answer_none i l e = rw e
 
 -- from the first place on: of 12 and 13, of 11, of 14
 pub answer_all {ℓ} : {A : Type ℓ} (f : A → Bool) (l : List A) → answer_from 0 (map f l) ≡ tested (any f l) (first_true (map f l))

@@ -1,4 +1,5 @@
-// The four tests of commit, each to the first yes: what the definition says of every store that has the lent arrays.
+// The four tests of commit, each to the first yes: the place of the first entry that conflicts, as the definition has it of every store with the
+// lent store's arrays.
 
 ghost use Rattle.std.specs.Prelude.{◌≡◌, take};
 ghost use Rattle.rules.specs.Types.{Store};
@@ -7,174 +8,81 @@ ghost use Rattle.rules.specs.Tests.{index_read_place, row_lock_place, serializat
 ghost use Rattle.fields.specs.Lent.{at_rows, at_places, flags_at_places, at_active, at_stripes};
 ghost use Rattle.commit_tests.specs.Conflicts.{tested, read_conflict_of};
 
-use super::finals::unwritten_from;
-use fields::lent::{clipped, head_of, stamp_at, txid_at};
+use super::finals::{unwritten_from, written};
+use fields::lent::{head_of, stamp_at, txid_at};
 use fields::locks::locked_by_another;
 use fields::txids::in_snapshot;
-use records::{ReadRecord, RowId, SlotPtr, Store, Tx, Txid};
-
-// What a test answers: whether an entry conflicts, and the place of the first that does, or the number of entries if none does.
-#[derive(Clone, Copy)]
-pub struct Tested {
-    pub yes: bool,
-    pub place: usize,
-}
+use records::{ReadRecord, SlotPtr, Store, Tx, Txid};
 
 // 11: index_conflict, its entry 0, is set, or a recorded stamp differs.
-pub fn index_read_conflict(stamps: &[u64; Store::STRIPES], x: Tx) -> Tested
-    ensures { (S : Store) → S.stamps ≡ at_stripes stamps.now → result ≡ tested (index_read_conflict S x) (index_read_place S x) }
+pub fn index_read_conflict(s: &Store, x: &Tx) -> Option<usize>
+    ensures { (S : Store) → S.stamps ≡ at_stripes s.now.stamps
+        → result ≡ tested (index_read_conflict S x.now) (index_read_place S x.now) }
 {
     if x.index_conflict {
-        return Tested {
-            yes: true,
-            place: 0,
-        };
+        return Some(0);
     }
-    let n = clipped(x.index_read_count, Tx::INDEX_READS);
-    let mut i: usize = 0;
-    while i < n {
-        let e = x.index_reads[i];
-        let now = stamp_at(stamps, e.stripe);
-        if now.0 != e.stamp.0 {
-            return Tested {
-                yes: true,
-                place: i + 1,
-            };
-        }
-        i += 1;
-    }
-    Tested {
-        yes: false,
-        place: i + 1,
-    }
+    let i = x
+        .index_reads
+        .iter()
+        .take(x.index_read_count)
+        .position(|e| stamp_at(&s.stamps, e.stripe) != e.stamp)?;
+    Some(i + 1)
 }
 
 // 12: a written row's head has a live lock of another.
-pub fn has_row_lock_conflict<'a>(
-    heads: &'a [u32; RowId::ROWS],
-    locked: &'a [bool; SlotPtr::PLACES],
-    owner: &'a [u64; SlotPtr::PLACES],
-    active: &'a [u64; Txid::ACTIVE],
-    x: Tx,
-) -> Tested
-    ensures { (S : Store) → S.heads ≡ at_rows heads.now → S.locked ≡ flags_at_places locked.now
-        → S.owner ≡ at_places owner.now → S.active ≡ at_active active.now
-        → result ≡ tested (row_lock_conflict S x) (row_lock_place S x) }
+pub fn has_row_lock_conflict(s: &Store, x: &Tx) -> Option<usize>
+    ensures { (S : Store) → S.heads ≡ at_rows s.now.heads → S.locked ≡ flags_at_places s.now.locked
+        → S.owner ≡ at_places s.now.owner → S.active ≡ at_active s.now.active
+        → result ≡ tested (row_lock_conflict S x.now) (row_lock_place S x.now) }
 {
-    let n = clipped(x.write_count, Tx::WRITES);
-    let mut i: usize = 0;
-    while i < n {
-        let w = x.writes[i];
-        let head = head_of(heads, w.row);
-        if locked_by_another(locked, owner, active, x.txid, head) {
-            return Tested {
-                yes: true,
-                place: i,
-            };
-        }
-        i += 1;
-    }
-    Tested {
-        yes: false,
-        place: i,
-    }
+    x.writes
+        .iter()
+        .take(x.write_count)
+        .position(|w| locked_by_another(s, x.txid, head_of(&s.heads, w.row)))
 }
 
 // One read. Of an absent row: it has a head now. Of a version: a changed xmin conflicts first; xmax 0 or own is none; xmax at or above snapshot_xmax,
 // or in the snapshot, conflicts.
-fn read_conflict<'a>(
-    heads: &'a [u32; RowId::ROWS],
-    xmin: &'a [u64; SlotPtr::PLACES],
-    xmax: &'a [u64; SlotPtr::PLACES],
-    snapshot: &'a [u64; Txid::ACTIVE],
-    count: usize,
-    me: Txid,
-    end: Txid,
-    e: ReadRecord,
-) -> bool
-    ensures { result ≡ read_conflict_of (at_rows heads.now) (at_places xmin.now) (at_places xmax.now)
-        (take count (at_active snapshot.now)) me.0 end.0 e }
+fn read_conflict(s: &Store, x: &Tx, e: &ReadRecord) -> bool
+    ensures { result ≡ read_conflict_of (at_rows s.now.heads) (at_places s.now.xmin) (at_places s.now.xmax)
+        (take x.now.snapshot_count (at_active x.now.snapshot)) x.now.txid.0 x.now.snapshot_xmax.0 e.now }
 {
-    if e.ptr.0 == 0 {
-        let head = head_of(heads, e.row);
-        return head.0 != 0;
+    if e.ptr == SlotPtr::NULL {
+        return head_of(&s.heads, e.row) != SlotPtr::NULL;
     }
-    let creator = txid_at(xmin, e.ptr);
-    if creator.0 != e.xmin.0 {
+    if txid_at(&s.xmin, e.ptr) != e.xmin {
         return true;
     }
-    let ender = txid_at(xmax, e.ptr);
-    if ender.0 == 0 {
+    let ender = txid_at(&s.xmax, e.ptr);
+    if ender == Txid::NONE || ender == x.txid {
         return false;
     }
-    if ender.0 == me.0 {
-        return false;
-    }
-    if end.0 <= ender.0 {
-        return true;
-    }
-    in_snapshot(snapshot, count, ender)
+    x.snapshot_xmax.0 <= ender.0 || in_snapshot(&x.snapshot, x.snapshot_count, ender)
 }
 
 // 13: a read conflicts.
-pub fn has_serialization_conflict<'a>(
-    heads: &'a [u32; RowId::ROWS],
-    xmin: &'a [u64; SlotPtr::PLACES],
-    xmax: &'a [u64; SlotPtr::PLACES],
-    x: Tx,
-) -> Tested
-    ensures { (S : Store) → S.heads ≡ at_rows heads.now → S.xmin ≡ at_places xmin.now
-        → S.xmax ≡ at_places xmax.now → result ≡ tested (serialization_conflict S x) (serialization_place S x) }
+pub fn has_serialization_conflict(s: &Store, x: &Tx) -> Option<usize>
+    ensures { (S : Store) → S.heads ≡ at_rows s.now.heads → S.xmin ≡ at_places s.now.xmin
+        → S.xmax ≡ at_places s.now.xmax
+        → result ≡ tested (serialization_conflict S x.now) (serialization_place S x.now) }
 {
-    let n = clipped(x.read_count, Tx::READS);
-    let mut i: usize = 0;
-    while i < n {
-        let e = x.reads[i];
-        if read_conflict(
-            heads,
-            xmin,
-            xmax,
-            &x.snapshot,
-            x.snapshot_count,
-            x.txid,
-            x.snapshot_xmax,
-            e,
-        ) {
-            return Tested {
-                yes: true,
-                place: i,
-            };
-        }
-        i += 1;
-    }
-    Tested {
-        yes: false,
-        place: i,
-    }
+    x.reads
+        .iter()
+        .take(x.read_count)
+        .position(|e| read_conflict(s, x, e))
 }
 
 // 14: a final write's base is not the head, at its place among all writes. Whether a write is final is asked only where its base isn't the head.
-pub fn has_write_base_conflict(heads: &[u32; RowId::ROWS], x: Tx) -> Tested
-    ensures { (S : Store) → S.heads ≡ at_rows heads.now → result ≡ tested (write_base_conflict S x) (write_base_place S x) }
+pub fn has_write_base_conflict(s: &Store, x: &Tx) -> Option<usize>
+    ensures { (S : Store) → S.heads ≡ at_rows s.now.heads
+        → result ≡ tested (write_base_conflict S x.now) (write_base_place S x.now) }
 {
-    let n = clipped(x.write_count, Tx::WRITES);
-    let writes = x.writes;
-    let mut i: usize = 0;
-    while i < n {
-        let w = writes[i];
-        let head = head_of(heads, w.row);
-        if head.0 != w.base.0 {
-            if unwritten_from(writes, x.write_count, i + 1, w.row) {
-                return Tested {
-                    yes: true,
-                    place: i,
-                };
-            }
+    let writes = written(x);
+    for (i, w) in writes.iter().enumerate() {
+        if head_of(&s.heads, w.row) != w.base && unwritten_from(writes, i + 1, w.row) {
+            return Some(i);
         }
-        i += 1;
     }
-    Tested {
-        yes: false,
-        place: i,
-    }
+    None
 }

@@ -1,11 +1,11 @@
 // The final writes of a transaction: those with no later write of their row.
 
-ghost use Rattle.std.specs.Prelude.{◌≡◌, not};
+ghost use Rattle.std.specs.Prelude.{◌≡◌, ◌≤◌, not, length, drop};
+ghost use Rattle.records.specs.Limits.{write_limit};
 ghost use Rattle.rules.specs.Lists.{any};
-ghost use Rattle.fields.specs.First.{first_from};
+ghost use Rattle.rules.specs.Transaction.{writes_of};
 ghost use Rattle.commit_tests.specs.FinalTurns.{of_row, finals_laid};
 
-use fields::lent::clipped;
 use records::{RowId, Tx, Write};
 
 // The final writes in list order: the first `count` places.
@@ -15,45 +15,32 @@ pub struct Finals {
     pub count: usize,
 }
 
-// No write from a place on is of the row.
-pub(crate) fn unwritten_from(
-    writes: [Write; Tx::WRITES],
-    count: usize,
-    from: usize,
-    row: RowId,
-) -> bool
-    ensures { result ≡ not (any (of_row row.0) (first_from count writes from)) }
+// The writes of a transaction: as many places of its array as it counts.
+pub(crate) fn written(x: &Tx) -> &[Write]
+    ensures are { result.now ≡ writes_of x.now }
+    ensures few { length result.now ≤ write_limit }
 {
-    let n = clipped(count, Tx::WRITES);
-    let mut i = from;
-    while i < n {
-        let w = writes[i];
-        if w.row.0 == row.0 {
-            return false;
-        }
-        i += 1;
-    }
-    true
+    x.writes.get(..x.write_count).unwrap_or(&x.writes)
 }
 
-pub fn final_writes(x: Tx) -> Finals
-    ensures { result ≡ finals_laid x }
+// No write from a place on is of the row.
+pub(crate) fn unwritten_from(writes: &[Write], from: usize, row: RowId) -> bool
+    ensures { result ≡ not (any (of_row row.0) (drop from writes.now)) }
 {
-    let n = clipped(x.write_count, Tx::WRITES);
-    let writes = x.writes;
+    !writes.iter().skip(from).any(|w| w.row == row)
+}
+
+pub fn final_writes(x: &Tx) -> Finals
+    ensures { result ≡ finals_laid x.now }
+{
+    let writes = written(x);
     let mut at = [Write::NONE; Tx::WRITES];
     let mut count: usize = 0;
-    let mut i: usize = 0;
-    while i < n {
-        let w = writes[i];
-        i += 1;
-        if unwritten_from(writes, x.write_count, i, w.row) {
-            at[count] = w;
+    for (i, w) in writes.iter().enumerate() {
+        if unwritten_from(writes, i + 1, w.row) {
+            at[count] = *w;
             count += 1;
         }
     }
-    Finals {
-        at: at,
-        count: count,
-    }
+    Finals { at, count }
 }

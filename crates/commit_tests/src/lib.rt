@@ -1,5 +1,5 @@
 // What the steps of commit ask of transaction, schedule and store: the faults of a schedule, the final writes, the four tests. Each function takes
-// the store's arrays lent and the transaction by value, and answers what its definition in the crate `rules` says, on every input.
+// them lent, and answers what its definition in the crate `rules` says, on every input.
 
 #![tactic(auto)]
 

@@ -1,41 +1,39 @@
--- `index_read_conflict` meets its contract: it answers what the entries from the present place on do.
-use mathlib.Core.List.{map}
-use borrow.Author.Tests.{eq-eqb, ne_eqb}
-use Rattle.records.specs.Zero.{no_index_read}
-use Rattle.rules.specs.Tests.{stamp_differs}
-use Rattle.fields.specs.First.{first_from, first_next, first_end}
-use Rattle.commit_tests.specs.Conflicts.{answer_here, answer_next, answer_none, index_reads_all}
-use Rattle.fields.proofs.Lengths.{index_reads_long}
-use mathlib.Core.Path.{refl, sym, ap, ◌∙◌}
-use native.Mathlib.Omega.{arith}
+-- `index_read_conflict` meets its contract: index_conflict, or the first index read whose stamp differs.
+use Rattle.std.proofs.Common.{◌≡◌, ◌∙◌, ◌+◌, sym, ap, rules, take, eqb, not, get_or}
+use Rattle.std.specs.Prelude.{option_map}
+use Rattle.std.proofs.lemmas.Iterator.{YieldsList-from_slice, YieldsList-from_take}
+use Rattle.std.proofs.lemmas.Iterator.Search.{position_from_yields_List}
+use Rattle.fields.specs.Lent.{at_stripes}
+use Rattle.rules.specs.Tests.{stamp_differs, index_read_conflict, index_read_place}
+use Rattle.commit_tests.specs.Conflicts.{first_place, later_place}
 use Rattle.commit_tests.proofs.conflicts.index_read_conflict.Goals as goal
 
 pub returns-then-x : goal.returns-then-x
-returns-then-x c = λ S s. sym (answer_here 0 _ refl c.if-x.true) ∙ index_reads_all S _
+unfolding index_read_conflict index_read_place
+returns-then-x c = λ S e. rw c.if-x.true
 
-pub loop-i-init : goal.loop-i-init
-unfolding first_from
-loop-i-init c = (omega arith, omega arith, λ S s. sym (answer_next 0 _ refl c.if-x.false) ∙ index_reads_all S _)
-
-pub returns-then-now-e : goal.returns-then-now-e
-returns-then-now-e c = let x = c.args.x in
-    let long = index_reads_long x c.well_formed.1.0 in
-    λ S s. sym (answer_here _ _ (ap (map (stamp_differs S)) (first_next x.index_read_count x.index_reads _ no_index_read (omega arith)))
-    (rw (s, ← c.stamp_at-now.ensures, ne_eqb _ _ c.if-now-e.true)))
-    ∙ c.loop-i.invariant.2 S s
-
-pub loop-i-preserved : goal.loop-i-preserved
-loop-i-preserved c = let x = c.args.x in
-    let long = index_reads_long x c.well_formed.1.0 in (
-      omega arith,
-      omega arith,
-      λ S s. sym (answer_next _ _ (ap (map (stamp_differs S)) (first_next x.index_read_count x.index_reads _ no_index_read (omega arith)))
-          (rw (s, ← c.stamp_at-now.ensures, eq-eqb _ _ c.if-now-e.false)))
-          ∙ c.loop-i.invariant.2 S s,
-    )
+pub returns-in_err-i : goal.returns-in_err-i
+unfolding index_read_conflict index_read_place
+returns-in_err-i c = λ S h.
+    let s = c.args.s.now in
+    let x = c.args.x.now in
+    rw c.if-x.false (
+    c.from_residual.ensures ∙ ap (option_map (λ k. k + 1)) (
+    sym c.in_err-i.was ∙ first_place (stamp_differs S) (take x.index_read_count x.index_reads)
+    (position_from_yields_List (stamp_differs S) _ _ _ c.position.ensures.ran (YieldsList-from_take x.index_read_count (YieldsList-from_slice x.index_reads (cc)) (cc))
+    (λ e b q k.
+    let z : (q ≡ _) × (b ≡ not (eqb (get_or (at_stripes s.stamps) e.now.stripe 0) e.now.stamp.0)) = search rules in
+    (z.0, z.1 ∙ rw h)))) ∙ later_place _ _)
 
 pub returns : goal.returns
-returns c = let x = c.args.x in
-    let long = index_reads_long x c.well_formed.1.0 in
-    λ S s. sym (answer_none _ _ (ap (map (stamp_differs S)) (first_end x.index_read_count x.index_reads _ (omega arith))))
-    ∙ c.loop-i.invariant.2 S s
+unfolding index_read_conflict index_read_place
+returns c = λ S h.
+    let s = c.args.s.now in
+    let x = c.args.x.now in
+    rw c.if-x.false (
+    ap (option_map (λ k. k + 1)) (
+    sym c.in_ok-i.was ∙ first_place (stamp_differs S) (take x.index_read_count x.index_reads)
+    (position_from_yields_List (stamp_differs S) _ _ _ c.position.ensures.ran (YieldsList-from_take x.index_read_count (YieldsList-from_slice x.index_reads (cc)) (cc))
+    (λ e b q k.
+    let z : (q ≡ _) × (b ≡ not (eqb (get_or (at_stripes s.stamps) e.now.stripe 0) e.now.stamp.0)) = search rules in
+    (z.0, z.1 ∙ rw h)))) ∙ later_place _ _)
