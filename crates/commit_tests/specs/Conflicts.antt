@@ -1,11 +1,11 @@
 -- The four tests of commit, entry by entry, on a store whose fields are lent: what a test answers from the place where it stands.
-use Rattle.std.specs.Prelude.{◌≡◌, Bool, true, false, not, cond, ◌&&◌, ◌||◌, List, [], ◌∷◌, map, ℕ, suc, ◌+◌, get_or, length, position, eqb, leb, ltb, Option, Some, None, option_map}
+use Rattle.std.specs.Prelude.{◌≡◌, Bool, true, false, not, cond, ◌&&◌, ◌||◌, List, [], ◌∷◌, map, ℕ, suc, ◌+◌, get_or, length, position, eqb, leb, ltb, Option, Some, None, is_some, option_map}
 use Rattle.std.proofs.Math.Nat.{add-zero, add-suc, suc-add}
 use Rattle.std.proofs.Common.{zero-add}
 use Rattle.std.proofs.Math.Numerals.{add-one}
 use Rattle.std.specs.List.{position_or_len}
 use Rattle.std.proofs.Common.{refl, sym, ap, ◌∙◌, arith}
-use Rattle.std.proofs.lemmas.Bool.{lt-ltb}
+use Rattle.std.proofs.lemmas.Bool.{true≢false, lt-ltb}
 use Rattle.basic_laws.specs.Cases.{by}
 use Rattle.basic_laws.specs.FirstTrue.{yes, yes_map, yes_finals}
 use Rattle.rules.specs.Lists.{any, memb, first_true}
@@ -19,6 +19,19 @@ use Rattle.fields.specs.Lent.{at_rows, at_places, flags_at_places, at_active, at
 abbrev pub tested : Bool → ℕ → Option ℕ
 tested true p = Some p
 tested false p = None
+
+abbrev some_or : ℕ → Option ℕ → ℕ
+some_or d None = d
+some_or d (Some i) = i
+
+-- what the answer says of the test
+pub some_tested : (b : Bool) (p : ℕ) {i : ℕ} → Some i ≡ tested b p → (b ≡ true) × (i ≡ p)
+some_tested true p e = (refl, ap (some_or 0) e)
+some_tested false p e = absurd (true≢false (ap is_some e))
+
+pub none_tested : (b : Bool) (p : ℕ) → None ≡ tested b p → b ≡ false
+none_tested true p e = absurd (true≢false (sym (ap is_some e)))
+none_tested false p e = refl
 
 -- the same one place later
 pub later_place : (b : Bool) (p : ℕ) → option_map (λ k. k + 1) (tested b p) ≡ tested b (suc p)

@@ -7,6 +7,7 @@ use Rattle.std.proofs.Math.ListN.{get_or, get_or-map, get_or-eq_default}
 use Rattle.std.proofs.lemmas.List.{get_or-replicate}
 use Rattle.records.specs.Zero.{only_txid}
 use Rattle.basic_laws.specs.Cases.{by}
+use borrow.Author.Tests.{eqb-true}
 use Rattle.rules.specs.Types.{Store, Tx, Schedule, Cause, Open, Closed, Undone, Standing, Refusal, Done, StepFailed, PrepareFailed}
 use Rattle.rules.specs.Types.{PreparePanicked, Conflict, BoundDurably, FoundPoisoned, InsertFailed, CallbackFailed, CallbackPanicked}
 use Rattle.rules.specs.Types.{RemoveFailed, PublishFailed, RecycleFailed, FinishFailed, StampFailed, CleanupFailed}
@@ -16,9 +17,11 @@ use Rattle.rules.specs.Faults.{F, P, X, Q, faults_of, fault_at}
 use Rattle.rules.specs.Commit.{End, strikes, abort_or_poison, rollback, Run, committed, run_of}
 use Rattle.run_laws.specs.Gates.{gates, clean}
 use Rattle.steps.specs.declared.ends.Ending.{Ending}
-use Rattle.steps.specs.declared.gate.Gate.{Gate}
+use Rattle.steps.specs.declared.gate.Row.{Row}
+use Rattle.steps.specs.declared.gate.Left.{Left}
+use Rattle.steps.specs.declared.gate.Left.TheVariants.{All, ByAbort, NoAccesses, NoWrites, Emptied}
 use Rattle.commit_tests.specs.Striking.{letter_at}
-use Rattle.steps.specs.GateTable.{left_all, left_by_abort, left_no_accesses, left_no_writes, gate_table, clean_row, clean_gate, row_at, passed_at}
+use Rattle.steps.specs.GateTable.{gate_table, clean_row, clean_gate, row_at, passed_at}
 use Rattle.steps.specs.Stops.{hits, gate_of, run_at}
 use Rattle.steps.specs.Causes.{cause_after}
 use Rattle.steps.specs.RecordAndEvents.{end_with}
@@ -77,15 +80,20 @@ module _ (letter : ℕ → ℕ) where
       (cond (eqb n 17) (spoil_ending (StampFailed Standing) false)
       (stay_ending Done)))))))))))))
 
-  unfoldable pub tx_for : Tx → ℕ → Tx
-  tx_for x k =
-      cond (eqb k left_all) x
-      (cond (eqb k left_by_abort) (cond abort_fails x (only_txid x.txid.0))
-      (cond (eqb k left_no_accesses) (no_accesses x)
-      (cond (eqb k left_no_writes) (no_writes x) (emptied x))))
+  -- only a 7 looks at the cause
+  pub cause_matters : (k c : Cause) (n : ℕ) → (n ≡ 7 → k ≡ c) → ending_for k n ≡ ending_for c n
+  unfolding ending_for
+  cause_matters k c n h = by (eqb n 7) (λ e. rw (h (eqb-true n 7 e))) (λ e. rw e)
+
+  unfoldable pub tx_for : Tx → Left → Tx
+  tx_for x All = x
+  tx_for x ByAbort = cond abort_fails x (only_txid x.txid.0)
+  tx_for x NoAccesses = no_accesses x
+  tx_for x NoWrites = no_writes x
+  tx_for x Emptied = emptied x
 
   -- the end that a row of the table gives, and the end at a gate
-  abbrev pub end_by : Store → Tx → Gate → End
+  abbrev pub end_by : Store → Tx → Row → End
   end_by S x r = end_with (ending_for (cause_after S x r.1) r.0) (tx_for x r.2)
 
   unfoldable pub end_at : Store → Tx → ℕ → End
@@ -111,7 +119,7 @@ module _ (S : Store) (x : Tx) (logged : Bool) (plan : Schedule) where
   unfolding ending_for tx_for
   last_end = refl
 
-  all_passed : map (λ g. g.then.passed) (gates S x logged plan) ≡ map (λ (r : Gate). r.1) gate_table
+  all_passed : map (λ g. g.then.passed) (gates S x logged plan) ≡ map (λ (r : Row). r.1) gate_table
   unfolding gates
   all_passed = refl
 
@@ -133,11 +141,11 @@ module _ (S : Store) (x : Tx) (logged : Bool) (plan : Schedule) where
       ap (λ r. r.passed) (run_at S x logged plan ∙ past_end (map (λ h. h.then) (gates S x logged plan)) g (clean S x logged plan))
       ∙ sym (get_or-map (λ (r : Run). r.passed) (map (λ h. h.then) (gates S x logged plan)) g (clean S x logged plan))
       ∙ ap (λ (l : List ℕ). get_or l g 23) all_passed
-      ∙ get_or-map (λ (r : Gate). r.1) gate_table g clean_row
+      ∙ get_or-map (λ (r : Row). r.1) gate_table g clean_row
 
 -- a run is done exactly where it passes all gates
 module _ (letter : ℕ → ℕ) (S : Store) (x : Tx) where
-  all_done : map (λ (r : Gate). is_done (end_by letter S x r).refusal) gate_table ≡ replicate clean_gate false
+  all_done : map (λ (r : Row). is_done (end_by letter S x r).refusal) gate_table ≡ replicate clean_gate false
   unfolding ending_for
   all_done =
       by (hits letter 16 P || hits letter 16 Q)
@@ -156,6 +164,6 @@ module _ (letter : ℕ → ℕ) (S : Store) (x : Tx) where
   pub done_at : (g : ℕ) → is_done (end_at letter S x g).refusal ≡ leb clean_gate g
   unfolding end_at row_at ending_for
   done_at g =
-      sym (get_or-map (λ (r : Gate). is_done (end_by letter S x r).refusal) gate_table g clean_row)
+      sym (get_or-map (λ (r : Row). is_done (end_by letter S x r).refusal) gate_table g clean_row)
       ∙ ap (λ (l : List Bool). get_or l g true) all_done
       ∙ done_past g

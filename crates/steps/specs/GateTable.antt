@@ -1,7 +1,9 @@
 -- The gates of commit: their names and their table. A gate's number is its place in the table.
-use Rattle.std.specs.Prelude.{◌≡◌, refl, List, [], ◌∷◌, ℕ, zero, suc, ◌<◌, length, get_or}
+use Rattle.std.specs.Prelude.{◌≡◌, refl, Bool, true, false, List, [], ◌∷◌, ℕ, zero, suc, ◌<◌, length, get_or}
 use Rattle.std.proofs.Common.{not-suc-le-zero, le_of_suc-le-suc}
-use Rattle.steps.specs.declared.gate.Gate.{Gate}
+use Rattle.steps.specs.declared.gate.Row.{Row}
+use Rattle.steps.specs.declared.gate.Left.{Left}
+use Rattle.steps.specs.declared.gate.Left.TheVariants.{All, ByAbort, NoAccesses, NoWrites, Emptied}
 
 -- the gates that are asked for by name: those where a step fails, and not those after them where its second test ends the run
 abbrev pub changes_failed : ℕ
@@ -61,66 +63,58 @@ finish_failed = 25
 abbrev pub stamp_failed : ℕ
 stamp_failed = 26
 
--- what a gate leaves of the transaction: all, what an abort leaves, no accesses, no writes, the lists emptied
-abbrev pub left_all : ℕ
-left_all = 0
+-- it leaves what an abort leaves
+abbrev pub is_by_abort : Left → Bool
+is_by_abort ByAbort = true
+is_by_abort All = false
+is_by_abort NoAccesses = false
+is_by_abort NoWrites = false
+is_by_abort Emptied = false
 
-abbrev pub left_by_abort : ℕ
-left_by_abort = 1
-
-abbrev pub left_no_accesses : ℕ
-left_no_accesses = 2
-
-abbrev pub left_no_writes : ℕ
-left_no_writes = 3
-
-abbrev pub left_emptied : ℕ
-left_emptied = 4
-
-abbrev row : ℕ → ℕ → ℕ → Gate
+abbrev row : ℕ → ℕ → Left → Row
 row number passed left = record { 0 = number; 1 = passed; 2 = left }
 
 -- the number that each gate answers if cleaning up works (a callback's panic, 12, shares its gate with 11), the steps passed before it, what it leaves
-abbrev pub gate_table : List Gate
+abbrev pub gate_table : List Row
 gate_table =
-    row 4 2 left_all  -- changes_failed
-    ∷ row 4 3 left_all  -- lock_keys_failed
-    ∷ row 5 4 left_by_abort  -- record_failed
-    ∷ row 5 5 left_by_abort  -- prepare_failed
-    ∷ row 6 5 left_by_abort  -- preparePanicked
-    ∷ row 4 6 left_all  -- index_guards_failed
-    ∷ row 7 6 left_by_abort  -- indexGuardsBusy
-    ∷ row 4 7 left_all  -- partition_guards_failed
-    ∷ row 7 7 left_by_abort  -- partitionGuardsBusy
-    ∷ row 4 8 left_all  -- unlogged_check_failed
-    ∷ row 8 8 left_all  -- durablyBound
-    ∷ row 9 9 left_by_abort  -- found_poison
-    ∷ row 4 10 left_all  -- index_reads_failed
-    ∷ row 7 10 left_by_abort  -- indexReadsConflict
-    ∷ row 4 11 left_all  -- row_locks_failed
-    ∷ row 7 11 left_by_abort  -- rowLocksConflict
-    ∷ row 4 12 left_all  -- serialization_failed
-    ∷ row 7 12 left_by_abort  -- serialization_conflict
-    ∷ row 4 13 left_all  -- write_base_failed
-    ∷ row 7 13 left_by_abort  -- write_base_conflict
-    ∷ row 10 14 left_all  -- insert_failed
-    ∷ row 11 15 left_by_abort  -- callback_ended
-    ∷ row 13 16 left_all  -- remove_failed
-    ∷ row 14 17 left_no_accesses  -- publish_failed
-    ∷ row 15 18 left_no_writes  -- recycle_failed
-    ∷ row 16 20 left_emptied  -- finish_failed
-    ∷ row 17 21 left_emptied  -- stamp_failed
+    row 4 2 All  -- changes_failed
+    ∷ row 4 3 All  -- lock_keys_failed
+    ∷ row 5 4 ByAbort  -- record_failed
+    ∷ row 5 5 ByAbort  -- prepare_failed
+    ∷ row 6 5 ByAbort  -- preparePanicked
+    ∷ row 4 6 All  -- index_guards_failed
+    ∷ row 7 6 ByAbort  -- indexGuardsBusy
+    ∷ row 4 7 All  -- partition_guards_failed
+    ∷ row 7 7 ByAbort  -- partitionGuardsBusy
+    ∷ row 4 8 All  -- unlogged_check_failed
+    ∷ row 8 8 All  -- durablyBound
+    ∷ row 9 9 ByAbort  -- found_poison
+    ∷ row 4 10 All  -- index_reads_failed
+    ∷ row 7 10 ByAbort  -- indexReadsConflict
+    ∷ row 4 11 All  -- row_locks_failed
+    ∷ row 7 11 ByAbort  -- rowLocksConflict
+    ∷ row 4 12 All  -- serialization_failed
+    ∷ row 7 12 ByAbort  -- serialization_conflict
+    ∷ row 4 13 All  -- write_base_failed
+    ∷ row 7 13 ByAbort  -- write_base_conflict
+    ∷ row 10 14 All  -- insert_failed
+    ∷ row 11 15 ByAbort  -- callback_ended
+    ∷ row 13 16 All  -- remove_failed
+    ∷ row 14 17 NoAccesses  -- publish_failed
+    ∷ row 15 18 NoWrites  -- recycle_failed
+    ∷ row 16 20 Emptied  -- finish_failed
+    ∷ row 17 21 Emptied  -- stamp_failed
     ∷ []
 
 -- the row of the run that passes them all, which comes after the last
-abbrev pub clean_row : Gate
-clean_row = row 0 23 left_emptied
+abbrev pub clean_row : Row
+clean_row = row 0 23 Emptied
 
 -- there are as many gates as rows, and the clean run's place is after them
 abbrev pub clean_gate : ℕ
 clean_gate = length gate_table
 
-unfoldable pub row_at : ℕ → Gate
+unfoldable pub row_at : ℕ → Row
 row_at g = get_or gate_table g clean_row
 
 abbrev pub number_at : ℕ → ℕ
@@ -129,7 +123,7 @@ number_at g = (row_at g).0
 abbrev pub passed_at : ℕ → ℕ
 passed_at g = (row_at g).1
 
-abbrev pub left_at : ℕ → ℕ
+abbrev pub left_at : ℕ → Left
 left_at g = (row_at g).2
 
 -- within a list it does not matter what is read past its end

@@ -1,6 +1,9 @@
 pub mod GateTable
+pub mod Places
 pub mod Stops
 pub mod Causes
+pub mod Ended
 pub mod RecordAndEvents
 pub mod Ends
+pub mod Chained
 pub mod RunFound

@@ -14,12 +14,12 @@ use Rattle.rules.specs.Answer.{uncut}
 use Rattle.run_laws.specs.Gates.{gates, clean}
 use Rattle.commit_tests.specs.declared.faults.Letters.{Letters}
 use Rattle.steps.specs.declared.ends.Ending.{Ending}
-use Rattle.commit_tests.specs.Striking.{letters, letter_at, letters_say}
+use Rattle.commit_tests.specs.Striking.{letters, letter_at, letter_in, letters_say}
 use Rattle.steps.specs.GateTable.{clean_gate, number_at, passed_at, left_at}
-use Rattle.steps.specs.Stops.{letter_in, gate_of, run_at}
+use Rattle.steps.specs.Stops.{gate_of, run_at}
 use Rattle.steps.specs.Causes.{cause_at}
 use Rattle.steps.specs.RecordAndEvents.{end_with, record_if, record_if_law, events_by, events_by_law}
-use Rattle.steps.specs.Ends.{ending_for, tx_for, end_at, run_end, run_passed, done_at}
+use Rattle.steps.specs.Ends.{ending_for, cause_matters, tx_for, end_at, run_end, run_passed, done_at}
 
 module _ (S : Store) (x : Tx) (logged : Bool) (plan : Schedule) where
   -- the stores of a run are those of its gate
@@ -31,13 +31,13 @@ module _ (S : Store) (x : Tx) (logged : Bool) (plan : Schedule) where
       ∙ sym (get_or-map (λ (r : Run). r.puts) (map (λ g. g.then) (gates S x logged plan) ++ clean S x logged plan ∷ [])
       (gate_of S x logged plan) (clean S x logged plan))
 
-  -- g and k, l, a and y as `first_gate`, `letters_of`, `ending_at` and `tx_left` find them
-  module _ (g : ℕ) (at : g ≡ gate_of S x logged plan) (k : Cause) (why : k ≡ cause_at S x g) (l : Letters) (is : l ≡ letters plan)
+  -- g and k, l, a and y as `first_gate`, `letters_of`, `ending_at` and `tx_left` find them: a 7 names its cause
+  module _ (g : ℕ) (at : g ≡ gate_of S x logged plan) (k : Cause) (why : number_at g ≡ 7 → k ≡ cause_at S x g) (l : Letters) (is : l ≡ letters plan)
       (a : Ending) (so : a ≡ ending_for (letter_in l) k (number_at g)) where
     -- the end that the gate gives, from the table of letters
     tabled : (y : Tx) → y ≡ tx_for (letter_in l) x (left_at g) → end_at (letter_at (faults_of plan)) S x g ≡ end_with a y
     unfolding end_at
-    tabled y left = rw (so, left, why, letters_say plan l is)
+    tabled y left = rw (so, left, cause_matters (letter_in l) k (cause_at S x g) (number_at g) why, letters_say plan l is)
 
     pub run_ends : (y : Tx) → y ≡ tx_for (letter_in l) x (left_at g) → (run_of S x logged plan).end ≡ end_with a y
     run_ends y left = run_end S x logged plan ∙ rw (← at) (tabled y left)

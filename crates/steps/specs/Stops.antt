@@ -12,7 +12,7 @@ use Rattle.rules.specs.Tests.{index_read_conflict, row_lock_conflict, serializat
 use Rattle.rules.specs.Commit.{strikes, Run, run_of}
 use Rattle.run_laws.specs.Gates.{Gate, first, gates, clean, run_gates}
 use Rattle.commit_tests.specs.declared.faults.Letters.{Letters}
-use Rattle.commit_tests.specs.Striking.{letters, letter_at, letters_say}
+use Rattle.commit_tests.specs.Striking.{letters, letter_at, letter_in, letters_say}
 use Rattle.steps.specs.GateTable.{changes_failed, index_guards_failed, index_reads_failed, insert_failed, clean_gate}
 
 -- the run of the first gate that holds, by the gate's place
@@ -46,10 +46,6 @@ unfolding gate_from
 gate_first n [] e = sym e
 gate_first n (true ∷ bs) e = sym (add-zero n)
 gate_first n (false ∷ bs) e = gate_first (suc n) bs (omega arith) ∙ suc-add n (first_true bs) ∙ sym (add-suc n (first_true bs))
-
--- the letter that strikes at a step, from a table of letters
-abbrev pub letter_in : Letters → ℕ → ℕ
-letter_in l n = get_or l.at n 0
 
 -- a letter that ends the callback: it fails or panics, with poison or without
 abbrev pub ends_callback : ℕ → Bool

@@ -6,12 +6,14 @@ ghost use Rattle.rules.specs.Numbers.{fate};
 ghost use Rattle.rules.specs.Faults.{P, X, Q};
 ghost use Rattle.records.specs.Zero.{only_txid};
 ghost use Rattle.steps.specs.GateTable.{number_at, left_at};
-ghost use Rattle.steps.specs.Stops.{hits, letter_in};
+ghost use Rattle.steps.specs.Stops.{hits};
+ghost use Rattle.steps.specs.Ended.{stop_place, cause_of};
+ghost use Rattle.commit_tests.specs.Striking.{letter_in};
 ghost use Rattle.steps.specs.Ends.{stay_ending, abort_ending, insert_ending, callback_ending, spoil_ending, abort_fails, rollback_fails, ending_for, tx_for};
 
-use super::gate::{Gate, left_at, number_at};
+use super::gate::{Left, left_at, number_at};
 use super::left::{emptied, no_accesses, no_writes};
-use super::logic::either;
+use super::stop::{Stop, place};
 use commit_tests::faults::Letters;
 use recording::changed::only_txid;
 use records::{Cause, Fate, Refusal, Tx};
@@ -44,22 +46,11 @@ fn stays(why: Refusal) -> Ending
 fn aborts(failed: bool, why: Refusal, instead: Refusal, found: bool, preparing: bool) -> Ending
     ensures { result ≡ abort_ending failed why instead found preparing }
 {
-    if failed {
-        Ending {
-            refusal: instead,
-            poisoned: true,
-            cleanup: preparing,
-            undone: false,
-            dropped: false,
-        }
-    } else {
-        Ending {
-            refusal: why,
-            poisoned: found,
-            cleanup: false,
-            undone: false,
-            dropped: false,
-        }
+    let refusal = if failed { instead } else { why };
+    Ending {
+        poisoned: found || failed,
+        cleanup: preparing && failed,
+        ..stays(refusal)
     }
 }
 
@@ -116,23 +107,20 @@ fn found_poisoned(failed: bool, found: bool) -> Ending
 fn fate_of(poisons: bool, aborted: bool) -> Fate
     ensures { result ≡ fate poisons aborted }
 {
-    if poisons {
-        return Fate::Undone;
+    match (poisons, aborted) {
+        (true, _) => Fate::Undone,
+        (false, true) => Fate::Closed,
+        (false, false) => Fate::Open,
     }
-    if aborted { Fate::Closed } else { Fate::Open }
 }
 
 // Number 10.
 fn insert_failed(unrolled: bool) -> Ending
     ensures { result ≡ insert_ending unrolled }
 {
-    let fate = fate_of(unrolled, false);
     Ending {
-        refusal: Refusal::InsertFailed(fate),
         poisoned: unrolled,
-        cleanup: false,
-        undone: false,
-        dropped: false,
+        ..stays(Refusal::InsertFailed(fate_of(unrolled, false)))
     }
 }
 
@@ -140,13 +128,10 @@ fn insert_failed(unrolled: bool) -> Ending
 fn callback_refusal(panics: bool, bad: bool, fate: Fate) -> Refusal
     ensures { result ≡ cond panics CallbackPanicked (cond bad CleanupFailed CallbackFailed) fate }
 {
-    if panics {
-        return Refusal::CallbackPanicked(fate);
-    }
-    if bad {
-        Refusal::CleanupFailed(fate)
-    } else {
-        Refusal::CallbackFailed(fate)
+    match (panics, bad) {
+        (true, _) => Refusal::CallbackPanicked(fate),
+        (false, true) => Refusal::CleanupFailed(fate),
+        (false, false) => Refusal::CallbackFailed(fate),
     }
 }
 
@@ -154,16 +139,13 @@ fn callback_refusal(panics: bool, bad: bool, fate: Fate) -> Refusal
 fn callback_ended(worse: bool, panics: bool, unrolled: bool, failed: bool) -> Ending
     ensures { result ≡ callback_ending worse panics unrolled failed }
 {
-    let bad = either(unrolled, failed);
-    let poisoned = either(worse, bad);
-    let fate = fate_of(poisoned, !failed);
-    let refusal = callback_refusal(panics, bad, fate);
+    let bad = unrolled || failed;
+    let poisoned = worse || bad;
+    let refusal = callback_refusal(panics, bad, fate_of(poisoned, !failed));
     Ending {
-        refusal: refusal,
-        poisoned: poisoned,
-        cleanup: false,
+        poisoned,
         undone: !unrolled,
-        dropped: false,
+        ..stays(refusal)
     }
 }
 
@@ -172,64 +154,63 @@ fn spoils(why: Refusal, drops: bool) -> Ending
     ensures { result ≡ spoil_ending why drops }
 {
     Ending {
-        refusal: why,
         poisoned: true,
-        cleanup: false,
-        undone: false,
         dropped: drops,
+        ..stays(why)
     }
 }
 
-// The refusal and the flags of a run that ends at the gate, with the cause of a 7.
-pub fn ending_at(gate: usize, cause: Cause, l: Letters) -> Ending
-    ensures { result ≡ ending_for (letter_in l) cause (number_at gate) }
+// The refusal and the flags of a run that ends there.
+pub fn ending_at(stop: Result<(), Stop>, l: &Letters) -> Ending
+    ensures { result ≡ ending_for (letter_in l.now) (cause_of stop) (number_at (stop_place stop)) }
 {
-    let number = number_at(gate);
-    let failed = l.at[23] == b'F';
-    match number {
+    let Err(Stop { gate, cause }) = stop else {
+        return stays(Refusal::Done);
+    };
+    let failed = l.strikes(23, b'F');
+    match number_at(gate.place()) {
         4 => stays(Refusal::StepFailed(Fate::Open)),
         5 => prepare_failed(failed),
         6 => prepare_panicked(failed),
         7 => conflict(failed, cause),
         8 => stays(Refusal::BoundDurably(Fate::Open)),
-        9 => found_poisoned(failed, l.at[10] != b'F'),
-        10 => insert_failed(l.at[24] == b'F'),
+        9 => found_poisoned(failed, !l.strikes(10, b'F')),
+        10 => insert_failed(l.strikes(24, b'F')),
         11 => callback_at(l),
         13 => spoils(Refusal::RemoveFailed(Fate::Undone), false),
-        14 => spoils(Refusal::PublishFailed(Fate::Undone), l.at[21] != b'F'),
-        15 => spoils(Refusal::RecycleFailed(Fate::Undone), l.at[21] != b'F'),
+        14 => spoils(Refusal::PublishFailed(Fate::Undone), !l.strikes(21, b'F')),
+        15 => spoils(Refusal::RecycleFailed(Fate::Undone), !l.strikes(21, b'F')),
         16 => spoils(Refusal::FinishFailed(Fate::Undone), false),
         17 => spoils(Refusal::StampFailed(Fate::Standing), false),
         _ => stays(Refusal::Done),
     }
 }
 
-fn callback_at(l: Letters) -> Ending
-    ensures { result ≡ callback_ending (hits (letter_in l) 16 X || hits (letter_in l) 16 Q) (hits (letter_in l) 16 P || hits (letter_in l) 16 Q)
-        (rollback_fails (letter_in l)) (abort_fails (letter_in l)) }
+fn callback_at(l: &Letters) -> Ending
+    ensures { result ≡ callback_ending (hits (letter_in l.now) 16 X || hits (letter_in l.now) 16 Q) (hits (letter_in l.now) 16 P || hits (letter_in l.now) 16 Q)
+        (rollback_fails (letter_in l.now)) (abort_fails (letter_in l.now)) }
 {
-    let worse = either(l.at[16] == b'X', l.at[16] == b'Q');
-    let panics = either(l.at[16] == b'P', l.at[16] == b'Q');
-    callback_ended(worse, panics, l.at[24] == b'F', l.at[23] == b'F')
+    let worse = l.strikes(16, b'X') || l.strikes(16, b'Q');
+    let panics = l.strikes(16, b'P') || l.strikes(16, b'Q');
+    callback_ended(worse, panics, l.strikes(24, b'F'), l.strikes(23, b'F'))
 }
 
 // What is left of the transaction.
-pub fn tx_left(gate: usize, l: Letters, x: Tx) -> Tx
-    ensures { result ≡ tx_for (letter_in l) x (left_at gate) }
+pub fn tx_left(stop: Result<(), Stop>, l: &Letters, x: &Tx) -> Tx
+    ensures { result ≡ tx_for (letter_in l.now) x.now (left_at (stop_place stop)) }
 {
-    let left = left_at(gate);
-    match left {
-        Gate::ALL => x,
-        Gate::BY_ABORT => aborted(l.at[23] == b'F', x),
-        Gate::NO_ACCESSES => no_accesses(x),
-        Gate::NO_WRITES => no_writes(x),
-        _ => emptied(x),
+    match left_at(place(stop)) {
+        Left::All => *x,
+        Left::ByAbort => aborted(l.strikes(23, b'F'), x),
+        Left::NoAccesses => no_accesses(x),
+        Left::NoWrites => no_writes(x),
+        Left::Emptied => emptied(x),
     }
 }
 
 // An abort that failed leaves the transaction's lists.
-fn aborted(failed: bool, x: Tx) -> Tx
-    ensures { result ≡ cond failed x (only_txid x.txid.0) }
+fn aborted(failed: bool, x: &Tx) -> Tx
+    ensures { result ≡ cond failed x.now (only_txid x.now.txid.0) }
 {
-    if failed { x } else { only_txid(x.txid) }
+    if failed { *x } else { only_txid(x.txid) }
 }

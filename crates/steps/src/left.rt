@@ -6,38 +6,37 @@ ghost use Rattle.rules.specs.Transaction.{no_writes, no_accesses, emptied};
 use records::{IndexRead, ReadRecord, Tx, Write};
 
 // Writes alone emptied.
-pub fn no_writes(x: Tx) -> Tx
-    ensures { result ≡ no_writes x }
+pub fn no_writes(x: &Tx) -> Tx
+    ensures { result ≡ no_writes x.now }
 {
-    let mut y = x;
-    y.writes = [Write::NONE; Tx::WRITES];
-    y.write_count = 0;
-    y
+    Tx {
+        writes: [Write::NONE; Tx::WRITES],
+        write_count: 0,
+        ..*x
+    }
 }
 
 // Writes, reads and index reads emptied.
-pub fn no_accesses(x: Tx) -> Tx
-    ensures { result ≡ no_accesses x }
+pub fn no_accesses(x: &Tx) -> Tx
+    ensures { result ≡ no_accesses x.now }
 {
-    let mut y = no_writes(x);
-    y.reads = [ReadRecord::NONE; Tx::READS];
-    y.read_count = 0;
-    y.index_reads = [IndexRead::NONE; Tx::INDEX_READS];
-    y.index_read_count = 0;
-    y
+    Tx {
+        reads: [ReadRecord::NONE; Tx::READS],
+        read_count: 0,
+        index_reads: [IndexRead::NONE; Tx::INDEX_READS],
+        index_read_count: 0,
+        ..no_writes(x)
+    }
 }
 
 // All lists emptied and index_conflict lowered; the snapshot stays.
-pub fn emptied(x: Tx) -> Tx
-    ensures { result ≡ emptied x }
+pub fn emptied(x: &Tx) -> Tx
+    ensures { result ≡ emptied x.now }
 {
-    let mut y = no_writes(x);
-    y.reads = [ReadRecord::NONE; Tx::READS];
-    y.read_count = 0;
-    y.index_reads = [IndexRead::NONE; Tx::INDEX_READS];
-    y.index_read_count = 0;
-    y.index_conflict = false;
-    y.savepoints = [0; Tx::SAVEPOINTS];
-    y.savepoint_count = 0;
-    y
+    Tx {
+        index_conflict: false,
+        savepoints: [0; Tx::SAVEPOINTS],
+        savepoint_count: 0,
+        ..no_accesses(x)
+    }
 }

@@ -8,6 +8,5 @@ pub mod first;
 pub mod gate;
 mod gates;
 mod left;
-mod logic;
 pub mod none;
-mod struck;
+pub mod stop;

@@ -1,28 +1,24 @@
 -- `tx_left` meets its contract, by what the gate leaves.
-use native.Mathlib.Omega.{arith}
-use borrow.Author.Tests.{ne_eqb}
+use Rattle.std.proofs.Common.{rules}
 use Rattle.steps.specs.Ends.{tx_for}
 use Rattle.steps.proofs.ends.tx_left.Goals as goal
 
-pub returns-in-0 : goal.returns-in-0
+pub returns-in-All : goal.returns-in-All
 unfolding tx_for
-returns-in-0 c = rw (← c.left_at-left.ensures, c.in-0.is)
+returns-in-All c = rw (← c.place.ensures, ← c.left_at.ensures, c.in-All.is) (search rules)
 
-pub returns-in-1 : goal.returns-in-1
+pub returns-in-ByAbort : goal.returns-in-ByAbort
 unfolding tx_for
-returns-in-1 c = rw (← c.left_at-left.ensures, c.in-1.is) c.aborted.ensures
+returns-in-ByAbort c = rw (← c.place.ensures, ← c.left_at.ensures, c.in-ByAbort.is) (search rules)
 
-pub returns-in-2 : goal.returns-in-2
+pub returns-in-NoAccesses : goal.returns-in-NoAccesses
 unfolding tx_for
-returns-in-2 c = rw (← c.left_at-left.ensures, c.in-2.is) c.no_accesses.ensures
+returns-in-NoAccesses c = rw (← c.place.ensures, ← c.left_at.ensures, c.in-NoAccesses.is) (search rules)
 
-pub returns-in-3 : goal.returns-in-3
+pub returns-in-NoWrites : goal.returns-in-NoWrites
 unfolding tx_for
-returns-in-3 c = rw (← c.left_at-left.ensures, c.in-3.is) c.no_writes.ensures
+returns-in-NoWrites c = rw (← c.place.ensures, ← c.left_at.ensures, c.in-NoWrites.is) (search rules)
 
-pub returns-in_default : goal.returns-in_default
+pub returns-in-Emptied : goal.returns-in-Emptied
 unfolding tx_for
-returns-in_default c =
-    let left = c.left_at-left.result in
-    rw (← c.left_at-left.ensures, ne_eqb left 0 (omega arith), ne_eqb left 1 (omega arith), ne_eqb left 2 (omega arith), ne_eqb left 3 (omega arith))
-    c.emptied.ensures
+returns-in-Emptied c = rw (← c.place.ensures, ← c.left_at.ensures, c.in-Emptied.is) (search rules)

@@ -1,79 +1,64 @@
 -- `closing` meets its contract: each step ends the run, or the next ones decide.
-use Rattle.steps.specs.Stops.{closing_tests, gate_stops, gate_goes}
-use native.Mathlib.Omega.{arith}
+use Rattle.std.proofs.Common.{arith}
+use Rattle.steps.specs.Stops.{closing_tests}
+use Rattle.steps.specs.Chained.{never, ends_here, goes_on}
 use Rattle.steps.proofs.first.closing.Goals as goal
 
-pub returns-then-g-lt-CLEAN : goal.returns-then-g-lt-CLEAN
+pub returns-in_err-prepare_index_destinations : goal.returns-in_err-prepare_index_destinations
 unfolding closing_tests
-returns-then-g-lt-CLEAN c = gate_stops _ _ _ _ c.prepare_index_destinations-g.ensures c.if-g-lt-CLEAN.true
+returns-in_err-prepare_index_destinations c =
+    ends_here _ _ _ c.in_err-prepare_index_destinations.field-0.0 c.from_residual.result c.from_residual.ensures.1 c.in_err-prepare_index_destinations.ensures
 
-pub returns-then-g-lt-CLEAN-2 : goal.returns-then-g-lt-CLEAN-2
+pub returns-in_err-invoke_before_publish : goal.returns-in_err-invoke_before_publish
 unfolding closing_tests
-returns-then-g-lt-CLEAN-2 c =
-    gate_goes _ _ _ _ _ c.prepare_index_destinations-g.ensures c.if-g-lt-CLEAN.false (omega arith) (
-    gate_stops _ _ _ _ c.invoke_before_publish-g.ensures c.if-g-lt-CLEAN-2.true)
+returns-in_err-invoke_before_publish c =
+    goes_on _ _ _ c.in_ok-prepare_index_destinations.ensures (omega arith) (
+    ends_here _ _ _ c.in_err-invoke_before_publish.field-0.0 c.from_residual-in_err-invoke_before_publish.result c.from_residual-in_err-invoke_before_publish.ensures.1 c.in_err-invoke_before_publish.ensures)
 
-pub returns-then-g-lt-CLEAN-3 : goal.returns-then-g-lt-CLEAN-3
+pub returns-in_err-remove_index_sources : goal.returns-in_err-remove_index_sources
 unfolding closing_tests
-returns-then-g-lt-CLEAN-3 c =
-    gate_goes _ _ _ _ _ c.prepare_index_destinations-g.ensures
-    c.if-g-lt-CLEAN.false (omega arith) (
-    gate_goes _ _ _ _ _ c.invoke_before_publish-g.ensures c.if-g-lt-CLEAN-2.false (omega arith) (
-    gate_stops _ _ _ _ c.remove_index_sources-g.ensures c.if-g-lt-CLEAN-3.true))
+returns-in_err-remove_index_sources c =
+    goes_on _ _ _ c.in_ok-prepare_index_destinations.ensures (omega arith) (
+    goes_on _ _ _ c.in_ok-invoke_before_publish.ensures (omega arith) (
+    ends_here _ _ _ c.in_err-remove_index_sources.field-0.0 c.from_residual-in_err-remove_index_sources.result c.from_residual-in_err-remove_index_sources.ensures.1 c.in_err-remove_index_sources.ensures))
 
-pub returns-then-g-lt-CLEAN-4 : goal.returns-then-g-lt-CLEAN-4
+pub returns-in_err-publish_write_set : goal.returns-in_err-publish_write_set
 unfolding closing_tests
-returns-then-g-lt-CLEAN-4 c =
-    gate_goes _ _ _ _ _ c.prepare_index_destinations-g.ensures
-    c.if-g-lt-CLEAN.false (omega arith) (
-    gate_goes _ _ _ _ _ c.invoke_before_publish-g.ensures
-    c.if-g-lt-CLEAN-2.false (omega arith) (
-    gate_goes _ _ _ _ _ c.remove_index_sources-g.ensures c.if-g-lt-CLEAN-3.false (omega arith) (
-    gate_stops _ _ _ _ c.publish_write_set-g.ensures c.if-g-lt-CLEAN-4.true)))
+returns-in_err-publish_write_set c =
+    goes_on _ _ _ c.in_ok-prepare_index_destinations.ensures (omega arith) (
+    goes_on _ _ _ c.in_ok-invoke_before_publish.ensures (omega arith) (
+    goes_on _ _ _ c.in_ok-remove_index_sources.ensures (omega arith) (
+    ends_here _ _ _ c.in_err-publish_write_set.field-0.0 c.from_residual-in_err-publish_write_set.result c.from_residual-in_err-publish_write_set.ensures.1 c.in_err-publish_write_set.ensures)))
 
-pub returns-then-g-lt-CLEAN-5 : goal.returns-then-g-lt-CLEAN-5
+pub returns-in_err-recycle_non_final_writes : goal.returns-in_err-recycle_non_final_writes
 unfolding closing_tests
-returns-then-g-lt-CLEAN-5 c =
-    gate_goes _ _ _ _ _ c.prepare_index_destinations-g.ensures
-    c.if-g-lt-CLEAN.false (omega arith) (
-    gate_goes _ _ _ _ _ c.invoke_before_publish-g.ensures
-    c.if-g-lt-CLEAN-2.false (omega arith) (
-    gate_goes _ _ _ _ _ c.remove_index_sources-g.ensures c.if-g-lt-CLEAN-3.false
-    (omega arith) (
-    gate_goes _ _ _ _ _ c.publish_write_set-g.ensures c.if-g-lt-CLEAN-4.false (omega arith) (
-    gate_stops _ _ _ _ c.recycle_non_final_writes-g.ensures c.if-g-lt-CLEAN-5.true))))
+returns-in_err-recycle_non_final_writes c =
+    goes_on _ _ _ c.in_ok-prepare_index_destinations.ensures (omega arith) (
+    goes_on _ _ _ c.in_ok-invoke_before_publish.ensures (omega arith) (
+    goes_on _ _ _ c.in_ok-remove_index_sources.ensures (omega arith) (
+    goes_on _ _ _ c.in_ok-publish_write_set.ensures (omega arith) (
+    ends_here _ _ _ c.in_err-recycle_non_final_writes.field-0.0 c.from_residual-in_err-recycle_non_final_writes.result c.from_residual-in_err-recycle_non_final_writes.ensures.1 c.in_err-recycle_non_final_writes.ensures))))
 
-pub returns-then-g-lt-CLEAN-6 : goal.returns-then-g-lt-CLEAN-6
-returns-then-g-lt-CLEAN-6 c = absurd (let z : ⊥ = omega arith in z)
-
-pub returns-then-g-lt-CLEAN-7 : goal.returns-then-g-lt-CLEAN-7
+pub returns-in_err-flush_local_recycle_caches : goal.returns-in_err-flush_local_recycle_caches
 unfolding closing_tests
-returns-then-g-lt-CLEAN-7 c =
-    gate_goes _ _ _ _ _
-    c.prepare_index_destinations-g.ensures
-    c.if-g-lt-CLEAN.false (omega arith) (
-    gate_goes _ _ _ _ _ c.invoke_before_publish-g.ensures
-    c.if-g-lt-CLEAN-2.false (omega arith) (
-    gate_goes _ _ _ _ _ c.remove_index_sources-g.ensures
-    c.if-g-lt-CLEAN-3.false (omega arith) (
-    gate_goes _ _ _ _ _ c.publish_write_set-g.ensures
-    c.if-g-lt-CLEAN-4.false (omega arith) (
-    gate_goes _ _ _ _ _ c.recycle_non_final_writes-g.ensures
-    c.if-g-lt-CLEAN-5.false (omega arith) (
-    gate_stops _ _ _ _ c.finish_transaction-g.ensures c.if-g-lt-CLEAN-7.true)))))
+returns-in_err-flush_local_recycle_caches c = absurd (never c.in_err-flush_local_recycle_caches.field-0.0 c.in_err-flush_local_recycle_caches.ensures)
+
+pub returns-in_err-finish_transaction : goal.returns-in_err-finish_transaction
+unfolding closing_tests
+returns-in_err-finish_transaction c =
+    goes_on _ _ _ c.in_ok-prepare_index_destinations.ensures (omega arith) (
+    goes_on _ _ _ c.in_ok-invoke_before_publish.ensures (omega arith) (
+    goes_on _ _ _ c.in_ok-remove_index_sources.ensures (omega arith) (
+    goes_on _ _ _ c.in_ok-publish_write_set.ensures (omega arith) (
+    goes_on _ _ _ c.in_ok-recycle_non_final_writes.ensures (omega arith) (
+    ends_here _ _ _ c.in_err-finish_transaction.field-0.0 c.from_residual-in_err-finish_transaction.result c.from_residual-in_err-finish_transaction.ensures.1 c.in_err-finish_transaction.ensures)))))
 
 pub returns : goal.returns
 unfolding closing_tests
 returns c =
-    gate_goes _ _ _ _ _
-    c.prepare_index_destinations-g.ensures
-    c.if-g-lt-CLEAN.false (omega arith) (
-    gate_goes _ _ _ _ _ c.invoke_before_publish-g.ensures
-    c.if-g-lt-CLEAN-2.false (omega arith) (
-    gate_goes _ _ _ _ _ c.remove_index_sources-g.ensures
-    c.if-g-lt-CLEAN-3.false (omega arith) (
-    gate_goes _ _ _ _ _ c.publish_write_set-g.ensures
-    c.if-g-lt-CLEAN-4.false (omega arith) (
-    gate_goes _ _ _ _ _ c.recycle_non_final_writes-g.ensures
-    c.if-g-lt-CLEAN-5.false (omega arith) (
-    gate_goes _ _ _ _ _ c.finish_transaction-g.ensures c.if-g-lt-CLEAN-7.false (omega arith) c.publish_index_stamps.ensures)))))
+    goes_on _ _ _ c.in_ok-prepare_index_destinations.ensures (omega arith) (
+    goes_on _ _ _ c.in_ok-invoke_before_publish.ensures (omega arith) (
+    goes_on _ _ _ c.in_ok-remove_index_sources.ensures (omega arith) (
+    goes_on _ _ _ c.in_ok-publish_write_set.ensures (omega arith) (
+    goes_on _ _ _ c.in_ok-recycle_non_final_writes.ensures (omega arith) (
+    goes_on _ _ _ c.in_ok-finish_transaction.ensures (omega arith) (c.publish_index_stamps.ensures))))))

@@ -1,62 +1,44 @@
 -- `testing` meets its contract: each test ends the run, with its cause, or the next ones decide.
-use mathlib.Core.Path.{refl, ap, ◌∙◌}
-use Rattle.rules.specs.Types.{IndexReadAt, RowLockAt, SerializationAt, WriteBaseAt}
-use Rattle.commit_tests.specs.declared.conflicts.Tested.{Tested}
-use Rattle.steps.specs.GateTable.{row_at}
-use Rattle.steps.specs.Stops.{conflict_tests, gate_stops, gate_goes}
-use Rattle.steps.specs.Causes.{cause_after, cause_tested}
-use native.Mathlib.Omega.{arith}
+use Rattle.std.proofs.Common.{arith}
+use Rattle.steps.specs.Stops.{conflict_tests}
+use Rattle.steps.specs.Chained.{passed_stop, stops_here, stops_on}
 use Rattle.steps.proofs.first.testing.Goals as goal
 
-pub returns-then-g-lt-CLEAN : goal.returns-then-g-lt-CLEAN
-unfolding conflict_tests row_at cause_after
-returns-then-g-lt-CLEAN c = λ S d.
-    let t11 = c.index_read_conflict-t.ensures S d.stamps in
-    let g11 = c.index_read_conflict-g.ensures in (
-      rw (← ap (λ (t : Tested). t.yes) t11) (gate_stops _ _ _ _ g11 c.if-g-lt-CLEAN.true),
-      λ h. ap (λ (t : Tested). IndexReadAt t.place) t11 ∙ cause_tested S _ _ _ _ _ g11 refl h,
+pub returns-in_err-index_read_conflict : goal.returns-in_err-index_read_conflict
+unfolding conflict_tests
+returns-in_err-index_read_conflict c = λ S d.
+    let stop = c.in_err-index_read_conflict.field-0.0 in
+    rw (passed_stop stop c.from_residual.result c.from_residual.ensures.1) (
+      stops_here _ _ _ stop (c.in_err-index_read_conflict.ensures S d).0,
+      (c.in_err-index_read_conflict.ensures S d).1,
     )
 
-pub returns-then-g-lt-CLEAN-2 : goal.returns-then-g-lt-CLEAN-2
-unfolding conflict_tests row_at cause_after
-returns-then-g-lt-CLEAN-2 c = λ S d.
-    let t11 = c.index_read_conflict-t.ensures S d.stamps in
-    let t12 = c.has_row_lock_conflict-t.ensures S d.heads d.locked d.owner d.active in
-    let g12 = c.has_row_lock_conflict-g.ensures in (
-      rw (← ap (λ (t : Tested). t.yes) t11, ← ap (λ (t : Tested). t.yes) t12) (
-          gate_goes _ _ _ _ _ c.index_read_conflict-g.ensures c.if-g-lt-CLEAN.false (omega arith) (
-          gate_stops _ _ _ _ g12 c.if-g-lt-CLEAN-2.true)),
-      λ h. ap (λ (t : Tested). RowLockAt t.place) t12 ∙ cause_tested S _ _ _ _ _ g12 refl h,
+pub returns-in_err-has_row_lock_conflict : goal.returns-in_err-has_row_lock_conflict
+unfolding conflict_tests
+returns-in_err-has_row_lock_conflict c = λ S d.
+    let stop = c.in_err-has_row_lock_conflict.field-0.0 in
+    rw (passed_stop stop c.from_residual-in_err-has_row_lock_conflict.result c.from_residual-in_err-has_row_lock_conflict.ensures.1) (
+      stops_on _ _ _ (c.in_ok-index_read_conflict.ensures S d).0 (omega arith) (
+          stops_here _ _ _ stop (c.in_err-has_row_lock_conflict.ensures S d).0),
+      (c.in_err-has_row_lock_conflict.ensures S d).1,
     )
 
-pub returns-then-g-lt-CLEAN-3 : goal.returns-then-g-lt-CLEAN-3
-unfolding conflict_tests row_at cause_after
-returns-then-g-lt-CLEAN-3 c = λ S d.
-    let t11 = c.index_read_conflict-t.ensures S d.stamps in
-    let t12 = c.has_row_lock_conflict-t.ensures S d.heads d.locked d.owner d.active in
-    let t13 = c.has_serialization_conflict-t.ensures S d.heads d.xmin d.xmax in
-    let g13 = c.has_serialization_conflict-g.ensures in (
-      rw (← ap (λ (t : Tested). t.yes) t11, ← ap (λ (t : Tested). t.yes) t12, ← ap (λ (t : Tested). t.yes) t13) (
-          gate_goes _ _ _ _ _ c.index_read_conflict-g.ensures
-          c.if-g-lt-CLEAN.false (omega arith) (
-          gate_goes _ _ _ _ _ c.has_row_lock_conflict-g.ensures c.if-g-lt-CLEAN-2.false (omega arith) (
-          gate_stops _ _ _ _ g13 c.if-g-lt-CLEAN-3.true))),
-      λ h. ap (λ (t : Tested). SerializationAt t.place) t13 ∙ cause_tested S _ _ _ _ _ g13 refl h,
+pub returns-in_err-has_serialization_conflict : goal.returns-in_err-has_serialization_conflict
+unfolding conflict_tests
+returns-in_err-has_serialization_conflict c = λ S d.
+    let stop = c.in_err-has_serialization_conflict.field-0.0 in
+    rw (passed_stop stop c.from_residual-in_err-has_serialization_conflict.result c.from_residual-in_err-has_serialization_conflict.ensures.1) (
+      stops_on _ _ _ (c.in_ok-index_read_conflict.ensures S d).0 (omega arith) (
+          stops_on _ _ _ (c.in_ok-has_row_lock_conflict.ensures S d).0 (omega arith) (
+          stops_here _ _ _ stop (c.in_err-has_serialization_conflict.ensures S d).0)),
+      (c.in_err-has_serialization_conflict.ensures S d).1,
     )
 
 pub returns : goal.returns
-unfolding conflict_tests row_at cause_after
-returns c = λ S d.
-    let t11 = c.index_read_conflict-t.ensures S d.stamps in
-    let t12 = c.has_row_lock_conflict-t.ensures S d.heads d.locked d.owner d.active in
-    let t13 = c.has_serialization_conflict-t.ensures S d.heads d.xmin d.xmax in
-    let t14 = c.has_write_base_conflict-t.ensures S d.heads in
-    let g14 = c.has_write_base_conflict-g.ensures in (
-      rw (← ap (λ (t : Tested). t.yes) t11, ← ap (λ (t : Tested). t.yes) t12, ← ap (λ (t : Tested). t.yes) t13, ← ap (λ (t : Tested). t.yes) t14) (
-          gate_goes _ _ _ _ _ c.index_read_conflict-g.ensures
-          c.if-g-lt-CLEAN.false (omega arith) (
-          gate_goes _ _ _ _ _ c.has_row_lock_conflict-g.ensures
-          c.if-g-lt-CLEAN-2.false (omega arith) (
-          gate_goes _ _ _ _ _ c.has_serialization_conflict-g.ensures c.if-g-lt-CLEAN-3.false (omega arith) g14))),
-      λ h. ap (λ (t : Tested). WriteBaseAt t.place) t14 ∙ cause_tested S _ _ _ _ _ g14 refl h,
-    )
+unfolding conflict_tests
+returns c = λ S d. (
+  stops_on _ _ _ (c.in_ok-index_read_conflict.ensures S d).0 (omega arith) (
+      stops_on _ _ _ (c.in_ok-has_row_lock_conflict.ensures S d).0 (omega arith) (
+      stops_on _ _ _ (c.in_ok-has_serialization_conflict.ensures S d).0 (omega arith) ((c.has_write_base_conflict.ensures S d).0))),
+  (c.has_write_base_conflict.ensures S d).1,
+)

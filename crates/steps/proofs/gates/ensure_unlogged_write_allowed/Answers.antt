@@ -1,14 +1,17 @@
--- `ensure_unlogged_write_allowed` meets its contract: the step is for a commit that is unlogged and has writes.
-use Rattle.steps.specs.Stops.{gate_from}
+-- `ensure_unlogged_write_allowed` meets its contract: its first gate is struck, or the next decides.
+use Rattle.std.proofs.Common.{◌&&◌, not, [], ◌∷◌, arith, rules}
+use Rattle.rules.specs.Faults.{F}
+use Rattle.commit_tests.specs.Striking.{letter_in}
+use Rattle.steps.specs.Places.{place_of}
+use Rattle.steps.specs.Stops.{hits}
+use Rattle.steps.specs.Chained.{ends_here, goes_on}
 use Rattle.steps.proofs.gates.ensure_unlogged_write_allowed.Goals as goal
 
-pub returns-then-logged : goal.returns-then-logged
-unfolding gate_from
-returns-then-logged c = rw c.if-logged.true
+pub returns-in_err-stop_if : goal.returns-in_err-stop_if
+unfolding place_of
+returns-in_err-stop_if c =
+    ends_here 9 (((not c.args.logged && c.args.writing) && hits (letter_in c.args.l.now) 9 F) ∷ []) (((not c.args.logged && c.args.writing) && c.args.bound) ∷ []) c.in_err-stop_if.field-0.0 c.from_residual.result c.from_residual.ensures.1 (search rules)
 
-pub returns-then-writing : goal.returns-then-writing
-returns-then-writing c = rw (c.if-logged.false, c.if-writing.true) c.first_of_two.ensures
-
-pub returns-else-writing : goal.returns-else-writing
-unfolding gate_from
-returns-else-writing c = rw (c.if-logged.false, c.if-writing.false)
+pub returns : goal.returns
+unfolding place_of
+returns c = goes_on 9 (((not c.args.logged && c.args.writing) && hits (letter_in c.args.l.now) 9 F) ∷ []) (((not c.args.logged && c.args.writing) && c.args.bound) ∷ []) (search rules) (omega arith) (search rules)

@@ -1,10 +1,8 @@
--- `prepare_commit_record` meets its contract: the step is for a logged commit.
-use Rattle.steps.specs.Stops.{gate_from}
+-- `prepare_commit_record` meets its contract: its gate, if it is struck.
+use Rattle.std.proofs.Common.{rules}
+use Rattle.steps.specs.Places.{place_of}
 use Rattle.steps.proofs.gates.prepare_commit_record.Goals as goal
 
-pub returns-then-logged : goal.returns-then-logged
-returns-then-logged c = rw c.if-logged.true c.gate_if.ensures
-
-pub returns-else-logged : goal.returns-else-logged
-unfolding gate_from
-returns-else-logged c = rw c.if-logged.false
+pub returns : goal.returns
+unfolding place_of
+returns c = search rules

@@ -1,0 +1,8 @@
+-- `recycle_non_final_writes` meets its contract: its gate, if it is struck.
+use Rattle.std.proofs.Common.{rules}
+use Rattle.steps.specs.Places.{place_of}
+use Rattle.steps.proofs.gates.recycle_non_final_writes.Goals as goal
+
+pub returns : goal.returns
+unfolding place_of
+returns c = search rules
