@@ -1,5 +1,6 @@
 -- What an answer line's bytes are.
-use Rattle.std.specs.Prelude.{◌≡◌, [], ◌∷◌, ℕ, ◌+◌, ◌*◌, ◌≤◌, length, drop}
+use Rattle.script.specs.declared.print.Text.{Text}
+use Rattle.std.specs.Prelude.{◌≡◌, Option, Some, None, [], ◌∷◌, ℕ, ◌+◌, ◌*◌, ◌≤◌, length, drop}
 use Rattle.records.specs.Limits.{digits64}
 use Rattle.rules.specs.Types as types
 use Rattle.rules.specs.Numbers.{nothing, cause, test_named, place_named}
@@ -7,10 +8,6 @@ use Rattle.rules.specs.Numbers as numbers
 use Rattle.rules.specs.Replay.{num, dash, Out}
 use Rattle.rules.specs.Replay as replay
 use Rattle.rules.specs.Script.{Bytes, decimal, write}
-use Rattle.script.specs.declared.print.Third.{Third}
-use Rattle.script.specs.declared.print.Third.TheVariants.{Num, Dash}
-use Rattle.script.specs.declared.print.More.{More}
-use Rattle.script.specs.declared.print.More.TheVariants.{Nothing, Cause}
 
 -- what a 64-bit number takes
 abbrev pub digits : ℕ
@@ -41,18 +38,25 @@ cause_room = 2 * (digits + 1)
 abbrev pub room : ℕ
 room = 5 * (digits + 1)
 
--- what the declared third field and what follows it mean
-abbrev pub third_of : Third → replay.Third
-third_of (Num n) = num n
-third_of Dash = dash
+-- what the code's third field and what follows it mean
+abbrev pub third_of : Option ℕ → replay.Third
+third_of (Some n) = num n
+third_of None = dash
 
-abbrev pub more_of : More → numbers.More
-more_of Nothing = nothing
-more_of (Cause c) = cause c
+abbrev pub more_of : Option types.Cause → numbers.More
+more_of (Some c) = cause c
+more_of None = nothing
 
 -- an answer from its parts
 abbrev pub tells : ℕ → replay.Third → numbers.More → Out
 tells n t m = record { number = n; third = t; more = m }
+
+-- at most k bytes are put before the text that was there
+pub record Put (k : ℕ) (before : Bytes → Bytes) (old new : Text) : Type 0 where
+  pub full : length new.bytes ≡ room
+  pub many : old.start ≤ new.start + k
+  pub inside : new.start ≤ old.start
+  pub text : drop new.start new.bytes ≡ before (drop old.start old.bytes)
 
 -- from start on, the bytes are what the definitions write for this one answer
 pub record Printed (line number : ℕ) (t : replay.Third) (m : numbers.More) (bytes : Bytes) (start : ℕ) : Type 0 where

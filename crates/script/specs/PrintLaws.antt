@@ -24,9 +24,6 @@ digit_more f g n rest e l = rw (e, decimal, le-ltb n 10 l)
 
 -- the same for a digit put at k - 1, with room down to stop
 module _ (l : Bytes) (stop k n : ℕ) where
-  pub digits_none : k ≤ stop → decimal (k - stop) n (drop k l) ≡ drop k l
-  digits_none h = let e : k - stop ≡ 0 = omega arith in rw e
-
   pub digits_last : stop < k → k ≤ length l → n < 10 → decimal (k - stop) n (drop k l) ≡ drop (k - 1) (set l (k - 1) (48 + n % 10))
   digits_last h i small = digit_last (k - stop) n (drop k l) (omega arith) small ∙ sym (put_before l k (omega arith) i (48 + n % 10))
 

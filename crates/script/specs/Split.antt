@@ -1,7 +1,9 @@
 -- Parts between tabs, and lines, cut off one after the other.
 use Rattle.std.specs.Prelude.{◌≡◌, refl, cond, List, [], ◌∷◌, ℕ, suc, ◌+◌, ◌-◌, ◌<◌, ◌≤◌, eqb, ltb, length, get_or, take, drop}
-use Rattle.std.proofs.Common.{sym, ◌∙◌, add-one, arith, drop_of_length-le, length-drop, drop-cons, take_all, length-take-le}
-use borrow.Author.Tests.{eq-eqb, ne_eqb, ltb-true, ltb-false}
+use Rattle.std.proofs.Common.{sym, ◌∙◌, add-one, arith, length-drop, take_all, length-take-le, unwrap_or, position, ◌==◌}
+use Rattle.std.specs.List.{position_or_len}
+use Rattle.std.proofs.lemmas.List.Recursion.{is_position_or_len}
+use borrow.Author.Tests.{ltb-true, ltb-false}
 use Rattle.basic_laws.specs.Cases.{by}
 use Rattle.rules.specs.Replay.{line_bad}
 use Rattle.rules.specs.Script.{Bytes, on_first, split, form, line_of}
@@ -15,25 +17,20 @@ up_to c (b ∷ bs) = let r = suc (up_to c bs) in cond (eqb b c) 0 r
 abbrev pub after : Bytes → ℕ → Bytes
 after s a = take (length s - (a + 1)) (drop (a + 1) s)
 
--- counting on from i: the end, a c, another byte
-module _ (c : ℕ) (s : Bytes) (i : ℕ) where
-  pub count_end : length s ≤ i → i + up_to c (drop i s) ≡ i
-  unfolding up_to
-  count_end h = rw (drop_of_length-le s h) (omega arith)
-
-  pub count_here : i < length s → get_or s i 0 ≡ c → i + up_to c (drop i s) ≡ i
-  unfolding up_to
-  count_here h e = rw (drop-cons s i 0 h, eq-eqb _ _ e) (omega arith)
-
-  pub count_on : i < length s → (get_or s i 0 ≡ c → ⊥) → i + up_to c (drop i s) ≡ i + 1 + up_to c (drop (i + 1) s)
-  unfolding up_to
-  count_on h n = rw (drop-cons s i 0 h, ne_eqb _ _ n, add-one) (omega arith)
-
 -- no more than there are
-up_to_fits : (c : ℕ) (s : Bytes) → up_to c s ≤ length s
+pub up_to_fits : (c : ℕ) (s : Bytes) → up_to c s ≤ length s
 unfolding up_to
 up_to_fits c [] = omega arith
 up_to_fits c (b ∷ s) = by (eqb b c) (λ e. rw e (omega arith)) (λ e. rw e (omega (arith, up_to_fits c s)))
+
+-- the place of the first c, or the length
+pub up_to_place : (c : ℕ) (s : Bytes) → unwrap_or (position (λ b. b == c) s) (length s) ≡ up_to c s
+unfolding up_to
+up_to_place c s =
+    let e : up_to c s ≡ position_or_len (λ b. b == c) s = is_position_or_len (up_to c) (λ b. b == c) refl (λ b bs. by (eqb b c) (λ t. rw t) (λ t. rw t (omega arith))) s in
+    by (ltb (position_or_len (λ b. b == c) s) (length s))
+    (λ l. rw (l, e))
+    (λ l. rw (l, e) (omega (arith, up_to_fits c s, e, ltb-false)))
 
 -- the part that code takes is the whole rest
 after_drop : (s : Bytes) (a : ℕ) → after s a ≡ drop (suc a) s

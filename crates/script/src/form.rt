@@ -4,7 +4,6 @@ ghost use Rattle.std.specs.Prelude.{◌≡◌, [], ◌∷◌};
 ghost use Rattle.rules.specs.Script.{split, form};
 ghost use Rattle.script.specs.LineMeaning.{meaning};
 
-use crate::field::{Byte, Given, Logged, Num};
 use crate::{Line, field};
 use records::{Cut, Fault, RowId};
 
@@ -17,7 +16,7 @@ pub fn no_field(c: u8) -> Line
 pub fn one_field(c: u8, p: &[u8]) -> Line
     ensures { meaning result ≡ form c (p.now ∷ []) }
 {
-    let Num::Is(i) = field::place(p) else {
+    let Some(i) = field::place(p) else {
         return Line::Bad;
     };
     match c {
@@ -30,10 +29,10 @@ pub fn one_field(c: u8, p: &[u8]) -> Line
 fn commit(p: &[u8], q: &[u8]) -> Line
     ensures { meaning result ≡ form 67 (p.now ∷ q.now ∷ []) }
 {
-    let Num::Is(i) = field::place(p) else {
+    let Some(i) = field::place(p) else {
         return Line::Bad;
     };
-    let Logged::Is(logged) = field::mode(q) else {
+    let Some(logged) = field::mode(q) else {
         return Line::Bad;
     };
     Line::Commit(i as usize, logged, Cut::Uncut)
@@ -45,10 +44,10 @@ pub fn two_fields(c: u8, p: &[u8], q: &[u8]) -> Line
     if c == b'C' {
         return commit(p, q);
     }
-    let Num::Is(i) = field::place(p) else {
+    let Some(i) = field::place(p) else {
         return Line::Bad;
     };
-    let Num::Is(n) = field::number(q) else {
+    let Some(n) = field::number(q) else {
         return Line::Bad;
     };
     let at = i as usize;
@@ -63,13 +62,13 @@ pub fn two_fields(c: u8, p: &[u8], q: &[u8]) -> Line
 fn write(p: &[u8], q: &[u8], r: &[u8]) -> Line
     ensures { meaning result ≡ form 87 (p.now ∷ q.now ∷ r.now ∷ []) }
 {
-    let Num::Is(i) = field::place(p) else {
+    let Some(i) = field::place(p) else {
         return Line::Bad;
     };
-    let Num::Is(n) = field::number(q) else {
+    let Some(n) = field::number(q) else {
         return Line::Bad;
     };
-    let Given::Is(v) = field::value(r) else {
+    let Some(v) = field::value(r) else {
         return Line::Bad;
     };
     Line::Write(i as usize, RowId(n as usize), v)
@@ -78,13 +77,13 @@ fn write(p: &[u8], q: &[u8], r: &[u8]) -> Line
 fn cut_commit(p: &[u8], q: &[u8], r: &[u8]) -> Line
     ensures { meaning result ≡ form 67 (p.now ∷ q.now ∷ r.now ∷ []) }
 {
-    let Num::Is(i) = field::place(p) else {
+    let Some(i) = field::place(p) else {
         return Line::Bad;
     };
-    let Logged::Is(logged) = field::mode(q) else {
+    let Some(logged) = field::mode(q) else {
         return Line::Bad;
     };
-    let Num::Is(n) = field::number(r) else {
+    let Some(n) = field::number(r) else {
         return Line::Bad;
     };
     Line::Commit(i as usize, logged, Cut::After(n))
@@ -93,20 +92,16 @@ fn cut_commit(p: &[u8], q: &[u8], r: &[u8]) -> Line
 fn fault(p: &[u8], q: &[u8], r: &[u8]) -> Line
     ensures { meaning result ≡ form 70 (p.now ∷ q.now ∷ r.now ∷ []) }
 {
-    let Num::Is(step) = field::number(p) else {
+    let Some(step) = field::number(p) else {
         return Line::Bad;
     };
-    let Byte::Is(letter) = field::letter(q) else {
+    let Some(letter) = field::letter(q) else {
         return Line::Bad;
     };
-    let Num::Is(k) = field::number(r) else {
+    let Some(k) = field::number(r) else {
         return Line::Bad;
     };
-    Line::Fault(Fault {
-        step: step,
-        letter: letter,
-        k: k,
-    })
+    Line::Fault(Fault { step, letter, k })
 }
 
 pub fn three_fields(c: u8, p: &[u8], q: &[u8], r: &[u8]) -> Line

@@ -1,27 +1,13 @@
 // An answer line: "Output: line number, number, then ..". It is written from its end to its start, as the digits of a number come.
 
-ghost use Rattle.std.specs.Prelude.{◌≡◌, ◌∷◌, ◌+◌, ◌≤◌, length, drop};
-ghost use Rattle.script.specs.Print.{digits, in_decimal, third_text, third_of, cause_room, cause_text, more_text, more_of, Printed};
+ghost use Rattle.std.specs.Prelude.{◌≡◌, [], ◌∷◌, ◌+◌, ◌≤◌, drop};
+ghost use Rattle.script.specs.Print.{digits, in_decimal, third_text, third_of, cause_room, cause_text, more_text, more_of, room, Put, Printed};
 
 use crate::refusal::{place_of, test_of};
 use records::Cause;
 
-// The third field: a number, or - for a read without a key.
-#[derive(Drop)]
-pub enum Third {
-    Num(u64),
-    Dash,
-}
-
-// What follows it: on 7 the test as a fourth field and the place as a fifth, else nothing.
-#[derive(Drop)]
-pub enum More {
-    Nothing,
-    Cause(Cause),
-}
-
-// The text is the bytes from `start` on.
-#[derive(Drop)]
+// The text is the bytes from `start` on; what is put into it stands before what it has.
+#[derive(Clone, Copy)]
 pub struct Text {
     pub bytes: [u8; Text::ROOM],
     pub start: usize,
@@ -33,83 +19,91 @@ impl Text {
 
     // five numbers, four tabs and a line feed
     pub const ROOM: usize = Text::DIGITS * 5 + 5;
-}
 
-// One byte before `at`.
-fn put_byte(out: &mut [u8], at: usize, b: u8) -> usize
-    requires { (1 ≤ at) × (at ≤ length out.old) }
-    ensures { (result + 1 ≡ at) × (drop result out.new ≡ b ∷ drop at out.old) }
-{
-    out[at - 1] = b;
-    at - 1
-}
-
-// The digits of n before `at`.
-fn put_number(out: &mut [u8], at: usize, n: u64) -> usize
-    requires { (digits ≤ at) × (at ≤ length out.old) }
-    ensures { (at ≤ result + digits) × (result ≤ at) × (drop result out.new ≡ in_decimal n (drop at out.old)) }
-{
-    let stop = at - Text::DIGITS;
-    let mut k = at;
-    let mut left = n;
-    while stop < k {
-        k -= 1;
-        out[k] = b'0' + (left % 10) as u8;
-        if left < 10 {
-            return k;
+    fn empty() -> Text
+        ensures { (result.start ≡ room) × (drop result.start result.bytes ≡ []) }
+    {
+        Text {
+            bytes: [0; Text::ROOM],
+            start: Text::ROOM,
         }
-        left = left / 10;
     }
-    k
-}
 
-fn put_third(out: &mut [u8], at: usize, t: Third) -> usize
-    requires { (digits ≤ at) × (at ≤ length out.old) }
-    ensures { (at ≤ result + digits) × (result ≤ at) × (drop result out.new ≡ third_text (third_of t) (drop at out.old)) }
-{
-    match t {
-        Third::Num(n) => put_number(out, at, n),
-        Third::Dash => put_byte(out, at, b'-'),
+    fn put_byte(&mut self, b: u8)
+        requires { (1 ≤ self.old.start) × (self.old.start ≤ room) }
+        ensures { Put 1 (λ rest. b ∷ rest) self.old self.new }
+    {
+        self.start -= 1;
+        self.bytes[self.start] = b;
     }
-}
 
-// The test and the place, each after a tab.
-fn put_cause(out: &mut [u8], at: usize, c: Cause) -> usize
-    requires { (cause_room ≤ at) × (at ≤ length out.old) }
-    ensures { (at ≤ result + cause_room) × (result ≤ at) × (drop result out.new ≡ cause_text c (drop at out.old)) }
-{
-    let test = test_of(c);
-    let place = place_of(c);
-    let a = put_number(out, at, place);
-    let b = put_byte(out, a, b'\t');
-    let d = put_number(out, b, test);
-    put_byte(out, d, b'\t')
-}
+    // The digits of n.
+    fn put_number(&mut self, n: u64)
+        requires { (digits ≤ self.old.start) × (self.old.start ≤ room) }
+        ensures { Put digits (in_decimal n) self.old self.new }
+    {
+        let at = self.start;
+        let mut left = n;
+        for k in (at - Text::DIGITS..at).rev() {
+            self.start = k;
+            self.bytes[k] = b'0' + (left % 10) as u8;
+            if left < 10 {
+                return;
+            }
+            left /= 10;
+        }
+    }
 
-fn put_more(out: &mut [u8], at: usize, m: More) -> usize
-    requires { (cause_room ≤ at) × (at ≤ length out.old) }
-    ensures { (at ≤ result + cause_room) × (result ≤ at) × (drop result out.new ≡ more_text (more_of m) (drop at out.old)) }
-{
-    match m {
-        More::Nothing => at,
-        More::Cause(c) => put_cause(out, at, c),
+    // A number and the tab after it.
+    fn put_field(&mut self, n: u64)
+        requires { (1 + digits ≤ self.old.start) × (self.old.start ≤ room) }
+        ensures { Put (1 + digits) (λ rest. in_decimal n (9 ∷ rest)) self.old self.new }
+    {
+        self.put_byte(b'\t');
+        self.put_number(n);
+    }
+
+    // The third field: a number, or - for a read without a key.
+    fn put_third(&mut self, t: Option<u64>)
+        requires { (digits ≤ self.old.start) × (self.old.start ≤ room) }
+        ensures { Put digits (third_text (third_of t)) self.old self.new }
+    {
+        match t {
+            Some(n) => self.put_number(n),
+            None => self.put_byte(b'-'),
+        }
+    }
+
+    // The test and the place, each after a tab.
+    fn put_cause(&mut self, c: Cause)
+        requires { (cause_room ≤ self.old.start) × (self.old.start ≤ room) }
+        ensures { Put cause_room (cause_text c) self.old self.new }
+    {
+        self.put_number(place_of(c));
+        self.put_field(test_of(c));
+        self.put_byte(b'\t');
+    }
+
+    // What follows it: on 7 the test as a fourth field and the place as a fifth, else nothing.
+    fn put_more(&mut self, m: Option<Cause>)
+        requires { (cause_room ≤ self.old.start) × (self.old.start ≤ room) }
+        ensures { Put cause_room (more_text (more_of m)) self.old self.new }
+    {
+        if let Some(c) = m {
+            self.put_cause(c);
+        }
     }
 }
 
 // The answer to a line, with its line feed.
-pub fn print_line(line: u64, number: u64, t: Third, m: More) -> Text
+pub fn print_line(line: u64, number: u64, t: Option<u64>, m: Option<Cause>) -> Text
     ensures { Printed line number (third_of t) (more_of m) result.bytes result.start }
 {
-    let mut out = [0u8; Text::ROOM];
-    let a = put_byte(&mut out, Text::ROOM, b'\n');
-    let b = put_more(&mut out, a, m);
-    let c = put_third(&mut out, b, t);
-    let d = put_byte(&mut out, c, b'\t');
-    let e = put_number(&mut out, d, number);
-    let f = put_byte(&mut out, e, b'\t');
-    let start = put_number(&mut out, f, line);
-    Text {
-        bytes: out,
-        start: start,
-    }
+    let mut text = Text::empty();
+    text.put_byte(b'\n');
+    text.put_more(m);
+    text.put_third(t);
+    text.put_field(number);
+    text.put_field(line);
+    text
 }

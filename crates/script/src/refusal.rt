@@ -4,7 +4,6 @@ ghost use Rattle.std.specs.Prelude.{◌≡◌};
 ghost use Rattle.rules.specs.Numbers.{number_of, test_named, place_named, more_in};
 ghost use Rattle.script.specs.Print.{more_of};
 
-use crate::print::More;
 use records::{Cause, Refusal};
 
 pub fn number_of(why: Refusal) -> u64
@@ -45,12 +44,12 @@ pub fn number_of(why: Refusal) -> u64
 }
 
 // "on 7 only"
-pub fn more_in(why: Refusal) -> More
+pub fn more_in(why: Refusal) -> Option<Cause>
     ensures { more_of result ≡ more_in why }
 {
     match why {
-        Refusal::Conflict(c, _) => More::Cause(c),
-        _ => More::Nothing,
+        Refusal::Conflict(c, _) => Some(c),
+        _ => None,
     }
 }
 
@@ -72,9 +71,9 @@ pub(crate) fn place_of(c: Cause) -> u64
 {
     match c {
         Cause::BusyGuard => 0,
-        Cause::IndexReadAt(p) => p as u64,
-        Cause::RowLockAt(p) => p as u64,
-        Cause::SerializationAt(p) => p as u64,
-        Cause::WriteBaseAt(p) => p as u64,
+        Cause::IndexReadAt(p)
+        | Cause::RowLockAt(p)
+        | Cause::SerializationAt(p)
+        | Cause::WriteBaseAt(p) => p as u64,
     }
 }

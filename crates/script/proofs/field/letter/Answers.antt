@@ -1,23 +1,19 @@
 -- `letter` meets its contract.
-use borrow.Author.Tests.{le-leb, lt-leb}
-use mathlib.Core.Bool.{and-false}
-use Rattle.script.specs.FieldLaws.{letter_one, letter_other}
+use Rattle.std.proofs.Common.{arith}
+use Rattle.script.specs.FieldLaws.{letter_in, letter_not}
 use Rattle.script.proofs.field.letter.Goals as goal
 
-pub returns-then-s-ne1 : goal.returns-then-s-ne1
-returns-then-s-ne1 c = letter_other c.args.s.now c.if-s-ne1.true
+pub returns-in-65-to-90 : goal.returns-in-65-to-90
+returns-in-65-to-90 c = let h = c.in-65-to-90 in letter_in _ (omega arith) (omega arith) (omega arith)
 
-pub returns-then-b-lt65 : goal.returns-then-b-lt65
-returns-then-b-lt65 c =
-    let w = c.args.s.now in
-    rw (← letter_one w c.if-s-ne1.false, lt-leb _ _ c.if-b-lt65.true)
+pub returns-in_default : goal.returns-in_default
+returns-in_default c = letter_not _ (λ l a b. omega arith)
 
-pub returns-then-b-gt90 : goal.returns-then-b-gt90
-returns-then-b-gt90 c =
-    let w = c.args.s.now in
-    rw (← letter_one w c.if-s-ne1.false) (simp (lt-leb _ _ c.if-b-gt90.true, and-false))
+pub returns-in_default-2 : goal.returns-in_default-2
+returns-in_default-2 c = letter_not _ (λ l a b. omega arith)
 
-pub returns : goal.returns
-returns c =
-    let w = c.args.s.now in
-    rw (← letter_one w c.if-s-ne1.false) (simp (le-leb _ _ c.if-b-lt65.false, le-leb _ _ c.if-b-gt90.false))
+pub returns-in_default-3 : goal.returns-in_default-3
+returns-in_default-3 c = letter_not _ (λ l a b. omega arith)
+
+pub returns-in_default-4 : goal.returns-in_default-4
+returns-in_default-4 c = letter_not _ (λ l a b. omega arith)

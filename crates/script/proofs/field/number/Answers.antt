@@ -1,17 +1,19 @@
--- `number` meets its contract: the four ways a field can begin.
-use mathlib.Core.Path.{sym, ◌∙◌}
-use native.Mathlib.Omega.{arith}
-use Rattle.script.specs.FieldLaws.{number_none, number_one, number_zero, number_more}
+-- `number` meets its contract: the ways a field can begin.
+use Rattle.std.proofs.Common.{sym, ◌∙◌, arith}
+use Rattle.script.specs.FieldLaws.{number_zero, number_read, number_not}
 use Rattle.script.proofs.field.number.Goals as goal
 
-pub returns-then-s-eq0 : goal.returns-then-s-eq0
-returns-then-s-eq0 c = sym (number_none c.args.s.now (omega arith))
+pub returns-then-is_byte : goal.returns-then-is_byte
+returns-then-is_byte c = number_zero _ (sym c.if-is_byte.ensures)
 
-pub returns-then-s-eq1 : goal.returns-then-s-eq1
-returns-then-s-eq1 c = c.digits.ensures ∙ number_one c.args.s.now (omega arith)
+pub returns-in-49-to-57 : goal.returns-in-49-to-57
+returns-in-49-to-57 c = c.digits.ensures ∙ number_read _ (omega arith) (omega arith) (omega arith)
 
-pub returns-then-s-eq48 : goal.returns-then-s-eq48
-returns-then-s-eq48 c = sym (number_zero c.args.s.now (omega arith) c.if-s-eq48.true)
+pub returns-in_default : goal.returns-in_default
+returns-in_default c = number_not _ (sym c.if-is_byte.ensures) (λ l lo hi. omega arith)
 
-pub returns : goal.returns
-returns c = c.digits-2.ensures ∙ number_more c.args.s.now (omega arith) c.if-s-eq48.false
+pub returns-in_default-2 : goal.returns-in_default-2
+returns-in_default-2 c = number_not _ (sym c.if-is_byte.ensures) (λ l lo hi. omega arith)
+
+pub returns-in_default-3 : goal.returns-in_default-3
+returns-in_default-3 c = number_not _ (sym c.if-is_byte.ensures) (λ l lo hi. omega arith)

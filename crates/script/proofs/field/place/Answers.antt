@@ -1,12 +1,10 @@
 -- `place` meets its contract: it goes by what `number` answers.
-use Rattle.script.specs.FieldLaws.{place_in, place_beyond, place_not}
+use Rattle.std.proofs.Common.{sym, ◌∙◌}
+use Rattle.script.specs.FieldLaws.{place_in, place_not}
 use Rattle.script.proofs.field.place.Goals as goal
 
-pub returns-in_default : goal.returns-in_default
-returns-in_default c = place_not _ c.in_default.ensures
+pub returns-in_err-i : goal.returns-in_err-i
+returns-in_err-i c = c.from_residual.ensures ∙ place_not _ (sym c.number.ensures ∙ c.in_err-i.was)
 
-pub returns-then-i-lt-PLACES : goal.returns-then-i-lt-PLACES
-returns-then-i-lt-PLACES c = place_in _ c.in-Is.ensures c.if-i-lt-PLACES.true
-
-pub returns-else-i-lt-PLACES : goal.returns-else-i-lt-PLACES
-returns-else-i-lt-PLACES c = place_beyond _ c.in-Is.ensures c.if-i-lt-PLACES.false
+pub returns : goal.returns
+returns c = c.then_some.ensures ∙ place_in _ (sym c.number.ensures ∙ c.in_ok-i.was)

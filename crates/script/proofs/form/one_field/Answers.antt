@@ -7,7 +7,7 @@ pub returns-in_default : goal.returns-in_default
 returns-in_default c = rw (one_field c.args.c c.args.p.now, sym c.in_default.ensures) (simp bad)
 
 pub returns-in-66 : goal.returns-in-66
-returns-in-66 c = rw (one_field c.args.c c.args.p.now, sym c.in-Is.ensures, c.in-66.is)
+returns-in-66 c = rw (one_field c.args.c c.args.p.now, sym c.in-Some.ensures, c.in-66.is)
 
 pub returns-in-65 : goal.returns-in-65
-returns-in-65 c = rw (one_field c.args.c c.args.p.now, sym c.in-Is.ensures, c.in-65.is)
+returns-in-65 c = rw (one_field c.args.c c.args.p.now, sym c.in-Some.ensures, c.in-65.is)
