@@ -11,10 +11,10 @@ use Rattle.basic_laws.specs.Cases.{by}
 use Rattle.rules.specs.Types.{Tx}
 use Rattle.rules.specs.Replay.{Line, Desk, tx_at, turn}
 use Rattle.rules.specs.Script.{Bytes, split, line_of, write}
-use Rattle.script.specs.Print.{third_of, more_of, tells}
-use Rattle.replay_core.specs.declared.turn.Turned.{Turned}
+use Rattle.replay_core.specs.declared.turn.Desk as code
+use Rattle.replay_core.specs.declared.turn.Told.{Told}
 use Rattle.replay_core.specs.declared.feed.Fed.{Fed}
-use Rattle.replay_core.specs.Turn.{place_in, at_first, single, turned, joined, turn_alone}
+use Rattle.replay_core.specs.Turn.{place_in, at_first, single, told, turned, joined, turn_alone}
 use Rattle.replay_core.specs.Put.{Puts, alike_on}
 use Rattle.replay_core.specs.Feed.{Reading, held_room, next_line, line_end, with_byte, fed_byte, fed}
 use Rattle.replay_core.specs.Feed.{ended, ended_in, answer_room, reading, Counted, Feeds, Finishes}
@@ -35,22 +35,22 @@ within (x ∷ l) zero y z h = refl
 within (x ∷ l) (suc i) y z h = within l i y z (omega arith)
 
 -- the line under way, turned at its place
-module _ (d : Desk) (w : Bytes) (n : ℕ) {l : Line} {p m : ℕ} {x : Tx} (t : Turned) (e : l ≡ line_of (split 9 w)) (at : p ≡ place_in l) (its : x ≡ tx_at d p)
-    (f : turned t ≡ turn (at_first l) (single d.store x d.plan)) (next : m ≡ next_line n) where
-  the_turn : joined d p (turned t) ≡ turn (line_of (split 9 w)) d
+module _ (d : Desk) (w : Bytes) (n : ℕ) {l : Line} {p m : ℕ} {x : Tx} (c : code.Desk) (t : Told) (e : l ≡ line_of (split 9 w)) (at : p ≡ place_in l)
+    (its : x ≡ tx_at d p) (f : turned c t ≡ turn (at_first l) (single d.store x d.plan)) (next : m ≡ next_line n) where
+  the_turn : joined d p (turned c t) ≡ turn (line_of (split 9 w)) d
   the_turn =
-      ap (λ q. joined d q (turned t)) at
+      ap (λ q. joined d q (turned c t)) at
       ∙ ap (joined d (place_in l)) (rw (its, at) at f)
       ∙ sym (turn_alone l d)
       ∙ ap (λ q. turn q d) e
 
-  end_state : {none : Bytes} → none ≡ []
-      → record { desk = record { store = t.store; txs = slice_set d.txs p t.tx; plan = t.plan }; held = none; lines = m }
+  pub end_state : {none : Bytes} → none ≡ []
+      → record { desk = record { store = c.store; txs = slice_set d.txs p c.tx; plan = c.plan }; held = none; lines = m }
       ≡ (line_end (record { desk = d; held = w; lines = n })).state
   unfolding line_end
   end_state z = λ i. record { desk = (the_turn i).desk; held = z i; lines = next i }
 
-  pub end_puts : {out after : Bytes} {k r : ℕ} → Puts out k (write m (tells t.number (third_of t.third) (more_of t.more) ∷ [])) after r
+  pub end_puts : {out after : Bytes} {k r : ℕ} → Puts out k (write m (told t ∷ [])) after r
       → Puts out k (line_end (record { desk = d; held = w; lines = n })).answers after r
   unfolding line_end
   end_puts {out} {after} {k} {r} put = subst (λ (text : Bytes). Puts out k text after r) (λ i. write (next i) ((the_turn i).out ∷ [])) put
@@ -90,7 +90,7 @@ module _ (s : Reading) (part : Bytes) (i : ℕ) (h : i < length part) where
         (λ t. g.room j (omega (arith, eqb-false j i t)))
 
     -- a line ends
-    goes_line : {last : Bytes} {r : ℕ} {new : Reading} → slice_index part i ≡ 10 → new ≡ (line_end now).state → Puts after n (line_end now).answers last r
+    pub goes_line : {last : Bytes} {r : ℕ} {new : Reading} → slice_index part i ≡ 10 → new ≡ (line_end now).state → Puts after n (line_end now).answers last r
         → Goes s part out last (i + 1) r new
     unfolding fed_byte
     goes_line b st put =
@@ -103,7 +103,7 @@ module _ (s : Reading) (part : Bytes) (i : ℕ) (h : i < length part) where
         }
 
     -- any other byte goes onto it
-    goes_byte : {new : Reading} → (slice_index part i ≢ 10) → new ≡ with_byte (slice_index part i) now → Goes s part out after (i + 1) n new
+    pub goes_byte : {new : Reading} → (slice_index part i ≢ 10) → new ≡ with_byte (slice_index part i) now → Goes s part out after (i + 1) n new
     unfolding fed_byte
     goes_byte e st =
         let q = one_more in
@@ -114,19 +114,11 @@ module _ (s : Reading) (part : Bytes) (i : ℕ) (h : i < length part) where
           room = more_room;
         }
 
--- the loop of the code: a line feed, and any other byte
-module _ (s : Reading) (part : Bytes) (i : ℕ) (h : i < length part) (d : Desk) (w : Bytes) (k : ℕ) {out after : Bytes} {n : ℕ}
-    (g : Goes s part out after i n (record { desk = d; held = w; lines = k })) (long : length after ≡ length out) (room : n + answer_room ≤ length after) where
-  pub on_feed : {l : Line} {p m r : ℕ} (t : Turned) {none last : Bytes} → slice_index part i ≡ 10
-      → l ≡ line_of (split 9 w) → p ≡ place_in l → {x : Tx} → x ≡ tx_at d p → turned t ≡ turn (at_first l) (single d.store x d.plan) → m ≡ next_line k
-      → Puts after n (write m (tells t.number (third_of t.third) (more_of t.more) ∷ [])) last r → none ≡ []
-      → Goes s part out last (i + 1) r (record { desk = record { store = t.store; txs = slice_set d.txs p t.tx; plan = t.plan }; held = none; lines = m })
-  on_feed t b e q a f next put z = goes_line s part i h out g long room b (end_state d w k t e q a f next z) (end_puts d w k t e q a f next put)
-
-  pub on_byte_law : {more : Bytes} → (slice_index part i ≢ 10) → more ≡ take held_room (w ++ slice_index part i ∷ [])
-      → Goes s part out after (i + 1) n (record { desk = d; held = more; lines = k })
-  unfolding with_byte
-  on_byte_law other e = goes_byte s part i h out g long room other (λ j. record { desk = d; held = e j; lines = k })
+-- any other byte, as the line under way takes it
+pub held_more : (s : Reading) (b : ℕ) {more : Bytes} → more ≡ take held_room (s.held ++ b ∷ [])
+    → record { desk = s.desk; held = more; lines = s.lines } ≡ with_byte b s
+unfolding with_byte
+held_more s b e = λ j. record { desk = s.desk; held = e j; lines = s.lines }
 
 pub counted : {n : ℕ} {out : Bytes} → n ≤ length out → Counted n out
 counted {n} {out} h = record { there = h; many = sym (length-take-le n out h) }

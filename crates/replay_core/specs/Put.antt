@@ -1,6 +1,10 @@
 -- Bytes put behind the first n of an array.
-use Rattle.std.specs.Prelude.{◌≡◌, ℕ, ◌+◌, ◌-◌, ◌<◌, ◌≤◌, List, [], ◌∷◌, ◌++◌, length, take, drop, slice_index, slice_index_or, slice_set}
-use Rattle.std.proofs.Common.{sym, ap, ◌∙◌, append-nil, append_assoc, add-one, arith, drop_of_length-le, drop-cons, drop-drop, drop-set-lt, take-suc-set}
+use Rattle.std.specs.Prelude.{◌≡◌, refl, replicate, zero, suc, ℕ, ◌+◌, ◌-◌, ◌≤◌, List, [], ◌∷◌, ◌++◌, length, take, drop}
+use Rattle.std.proofs.Common.{sym, ap, arith, drop-drop, length-append, length-take-le, length-drop}
+use borrow.Rule.Slice.PartMut.{put_mid}
+use Rattle.std.proofs.lemmas.Slice.{take-put_mid, drop-put_mid}
+use Rattle.rules.specs.Lists.{pad}
+use Rattle.rules.specs.Script.{Bytes}
 use Rattle.replay_core.specs.Feed.{answer_room}
 
 pub record Puts (out : List ℕ) (n : ℕ) (text : List ℕ) (after : List ℕ) (r : ℕ) : Type 0 where
@@ -17,17 +21,29 @@ alike_on a b {n} {m} h e =
     let z : n + k ≡ m = omega arith in
     rw (sym z, sym (drop-drop k n a), sym (drop-drop k n b)) (ap (drop k) e)
 
--- a byte written in front of that place
-pub alike_more : (a b : List ℕ) (i v : ℕ) → drop i a ≡ drop i b → drop (i + 1) (slice_set a i v) ≡ drop (i + 1) b
-alike_more a b i v e = drop-set-lt (i + 1) a i v (omega arith) ∙ alike_on a b {n = i} {m = i + 1} (omega arith) e
+-- a text copied behind the first n bytes
+pub copied : (out text ys : Bytes) (n : ℕ) {j k : ℕ} → ys ≡ text → length text ≡ k → j ≡ k → n + k ≤ length out → k ≤ answer_room
+    → Puts out n text (put_mid n j out ys) (n + k)
+copied out text ys n {j} {k} e long span room few =
+    rw e (record {
+      long =
+          omega (
+            arith,
+            length-append (take n out) (text ++ drop j (drop n out)),
+            length-append text (drop j (drop n out)),
+            length-take-le n out (omega arith),
+            length-drop j (drop n out),
+            length-drop n out,
+          );
+      more = omega arith;
+      few = omega arith;
+      are = take-put_mid n j out text (n + k) (omega arith) (omega arith);
+      rest = drop-put_mid n j out text (n + k) (omega arith) (omega arith) (omega arith);
+    })
 
--- what is put and what is left to put are the whole: one byte more, and the end
-module _ (out text whole : List ℕ) (at i : ℕ) (are : take at out ++ drop i text ≡ whole) where
-  pub put_more : at < length out → i < length text → take (at + 1) (slice_set out at (slice_index text i)) ++ drop (i + 1) text ≡ whole
-  put_more h k =
-      let b = slice_index_or text i 0 in
-      rw (add-one at, add-one i, take-suc-set out at b h)
-      (append_assoc (take at out) (b ∷ []) _ ∙ (rw (drop-cons text i 0 k) at are))
-
-  pub put_all : length text ≤ i → take at out ≡ whole
-  put_all h = sym (append-nil (take at out)) ∙ (rw (drop_of_length-le text {i = i} h) at are)
+-- a list laid out in an array of n places, the rest of which is z
+pub laid_out : {A : Type 0} (n : ℕ) (z : A) (m : List A) → length m ≤ n → m ++ drop (length m) (replicate n z) ≡ pad n z m
+laid_out zero z [] h = refl
+laid_out zero z (x ∷ m) h = absurd (omega arith)
+laid_out (suc n) z [] h = ap (λ l. z ∷ l) (laid_out n z [] (omega arith))
+laid_out (suc n) z (x ∷ m) h = ap (λ l. x ∷ l) (laid_out n z m (omega arith))

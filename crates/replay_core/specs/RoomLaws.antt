@@ -1,9 +1,9 @@
 -- The room is enough: an answer line has at most answer_room bytes, and there are at most as many lines as line feeds and one.
 use Rattle.std.specs.Prelude.{◌≡◌, ℕ, zero, suc, ◌+◌, ◌*◌, ◌/◌, ◌%◌, ◌^◌, ◌<◌, ◌≤◌, List, [], ◌∷◌}
-use Rattle.std.specs.Prelude.{◌++◌, length, take, drop, ◌==◌, ◌≢◌, nat_lt, slice_index, refl}
-use Rattle.std.proofs.Common.{sym, append-nil, add-one, arith, length-append, drop_of_length-le}
-use Rattle.std.proofs.Math.Seq.{drop-cons}
-use borrow.Author.Tests.{eq-eqb, ne_eqb, le-leb, lt-leb, ltb-true, ltb-false}
+use Rattle.std.specs.Prelude.{◌++◌, length, take, ◌==◌, nat_lt, nat_le, min, refl}
+use Rattle.std.proofs.Common.{sym, append-nil, arith, length-append, count_by}
+use Rattle.std.proofs.lemmas.List.Recursion.{is_count_by}
+use borrow.Author.Tests.{leb-true, leb-false, ltb-true, ltb-false}
 use Rattle.records.specs.Limits.{digits64}
 use Rattle.basic_laws.specs.Cases.{by}
 use Rattle.rules.specs.Numbers.{More, nothing, cause, test_named, place_named}
@@ -83,19 +83,10 @@ room_holds s h =
     let q = fed s first in
     rw (sym (whole s h)) (omega (arith, length-append q.answers (ended q.state), fed_short s first, ended_short q.state))
 
--- line feeds counted from the front
-module _ (s : Bytes) (i : ℕ) where
-  pub feeds_yes : i < length s → slice_index s i ≡ 10 → line_feeds (drop i s) ≡ suc (line_feeds (drop (i + 1) s))
-  unfolding line_feeds
-  feeds_yes h e = rw (add-one i, drop-cons s i 0 h, eq-eqb _ _ e)
-
-  pub feeds_no : i < length s → (slice_index s i ≢ 10) → line_feeds (drop i s) ≡ line_feeds (drop (i + 1) s)
-  unfolding line_feeds
-  feeds_no h e = rw (add-one i, drop-cons s i 0 h, ne_eqb _ _ e)
-
-  pub feeds_end : length s ≤ i → line_feeds (drop i s) ≡ 0
-  unfolding line_feeds
-  feeds_end h = rw (drop_of_length-le s {i = i} h)
+-- line feeds, as the library counts
+pub feeds_count : (s : Bytes) → line_feeds s ≡ count_by (λ b. b == 10) s
+unfolding line_feeds
+feeds_count s = is_count_by line_feeds (λ b. b == 10) refl (λ b bs. by (b == 10) (λ t. rw t (omega arith)) (λ t. rw t)) s
 
 -- the first bytes have no more of them
 pub feeds_taken : (n : ℕ) (s : Bytes) → line_feeds (take n s) ≤ line_feeds s
@@ -105,11 +96,7 @@ feeds_taken (suc n) [] = omega arith
 feeds_taken (suc n) (b ∷ s) = by (b == 10) (λ t. rw t (omega (arith, feeds_taken n s))) (λ t. rw t (feeds_taken n s))
 
 -- the room as a number of 64 bits
-module _ (s : Bytes) where
-  pub room_is : room_for s ≤ most → room_for s ≡ room_in s
-  unfolding room_in
-  room_is h = rw (le-leb _ _ h)
-
-  pub room_most : most < room_for s → most ≡ room_in s
-  unfolding room_in
-  room_most h = rw (lt-leb _ _ h)
+pub room_clipped : (s : Bytes) → min (room_for s) most ≡ room_in s
+unfolding room_in
+room_clipped s =
+    by (nat_le (room_for s) most) (λ t. rw t (omega (arith, leb-true _ _ t))) (λ t. rw t (omega (arith, leb-false _ _ t)))

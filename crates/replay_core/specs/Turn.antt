@@ -15,7 +15,8 @@ use Rattle.rules.specs.Script.{Bytes, split, line_of}
 use Rattle.script.specs.Print.{third_of, more_of, tells}
 use Rattle.statements.specs.ReplayWords.{IsForm}
 use Rattle.sentences.specs.ScriptSays.{line_says}
-use Rattle.replay_core.specs.declared.turn.Turned.{Turned}
+use Rattle.replay_core.specs.declared.turn.Desk as code
+use Rattle.replay_core.specs.declared.turn.Told.{Told}
 
 -- the place that a line names; the first for a line that names none
 abbrev pub place_in : Line → ℕ
@@ -55,9 +56,15 @@ leaves S x plan o = record { desk = single S x plan; out = o }
 abbrev pub left : Store → Tx → Schedule → ℕ → Third → Turn
 left S x plan n t = leaves S x plan (says n t)
 
--- what the code's answer means
-abbrev pub turned : Turned → Turn
-turned r = leaves r.store r.tx r.plan (tells r.number (third_of r.third) (more_of r.more))
+-- what the code's desk and answer mean
+abbrev pub desk_of : code.Desk → Desk
+desk_of d = single d.store d.tx d.plan
+
+abbrev pub told : Told → Out
+told t = tells t.number (third_of t.third) (more_of t.more)
+
+abbrev pub turned : code.Desk → Told → Turn
+turned d t = leaves d.store d.tx d.plan (told t)
 
 -- a desk of which one place went through a turn
 abbrev pub joined : Desk → ℕ → Turn → Turn

@@ -7,32 +7,19 @@ ghost use Rattle.replay_core.specs.Room.{line_feeds, room_in, Replayed};
 use super::feed::{feed, finish, start};
 use script::print::Text;
 
-// The lines whose answers a 64-bit number of bytes can count.
-const LINES: usize = usize::MAX / Text::ROOM;
-
 fn line_feeds(script: &[u8]) -> usize
     ensures { result ≡ line_feeds script.now }
 {
-    let mut n: usize = 0;
-    let mut i: usize = 0;
-    while i < script.len() {
-        if script[i] == b'\n' {
-            n += 1;
-        }
-        i += 1;
-    }
-    n
+    script.iter().filter(|b| **b == b'\n').count()
 }
 
 // So many bytes hold the answers to a script: an answer's room for each line feed, and once more.
 pub fn slack_room(script: &[u8]) -> usize
     ensures { result ≡ room_in script.now }
 {
-    let feeds = line_feeds(script);
-    if LINES <= feeds {
-        return usize::MAX;
-    }
-    (feeds + 1) * Text::ROOM
+    line_feeds(script)
+        .saturating_add(1)
+        .saturating_mul(Text::ROOM)
 }
 
 // Replays a script from the empty store: the answers are the first bytes of `out`, as many as this returns, and no other byte changes.
@@ -45,7 +32,5 @@ pub fn slack_replay(script: &[u8], out: &mut [u8]) -> usize
     }
     let r = start();
     let f = feed(r, script, out);
-    let n = f.count;
-    let left = f.replay;
-    n + finish(left, &mut out[n..])
+    f.count + finish(f.replay, &mut out[f.count..])
 }

@@ -1,11 +1,12 @@
 // A script fed in parts of any size: each line is answered where it ends. The loop owns the store and the transactions.
 
-ghost use Rattle.std.specs.Prelude.{◌≡◌};
-ghost use Rattle.replay_core.specs.Feed.{first, reading, Feeds, Finishes};
+ghost use Rattle.std.specs.Prelude.{◌≡◌, ◌+◌, ◌≤◌, length};
+ghost use Rattle.replay_core.specs.Feed.{answer_room, line_end, first, reading, Feeds, Finishes};
+ghost use Rattle.replay_core.specs.Put.{Puts};
 
 use super::answer::put_answer;
-use super::held::{Held, line_in, with_byte};
-use super::turn::{place_of, turn};
+use super::held::Held;
+use super::turn::{Desk, place_of, turn};
 use records::{Schedule, Store, Tx};
 use script::Line;
 use script::print::Text;
@@ -28,19 +29,39 @@ pub struct Fed {
     pub count: usize,
 }
 
+impl Replay {
+    // The line under way ends: it is turned at its place, and answered behind the first n bytes.
+    fn end_line(&mut self, out: &mut [u8], n: usize) -> usize
+        requires { n + answer_room ≤ length out.old }
+        ensures state { reading self.new ≡ (line_end (reading self.old)).state }
+        ensures text { Puts out.old n (line_end (reading self.old)).answers out.new result }
+    {
+        let line = self.held.line();
+        let p = place_of(line);
+        let mut desk = Desk {
+            store: self.store,
+            tx: self.txs[p],
+            plan: self.plan,
+        };
+        let told = turn(&mut desk, line);
+        self.store = desk.store;
+        self.txs[p] = desk.tx;
+        self.plan = desk.plan;
+        self.held = Held::none();
+        self.lines = self.lines.wrapping_add(1);
+        put_answer(out, n, self.lines, told)
+    }
+}
+
 // "It starts from the empty store and zero transactions".
 pub fn start() -> Replay
     ensures { reading result ≡ first }
 {
-    let store = Store::fresh();
-    let x = Tx::zero();
-    let plan = Schedule::none();
-    let held = Held::none();
     Replay {
-        store,
-        txs: [x; Line::PLACES],
-        plan,
-        held,
+        store: Store::fresh(),
+        txs: [Tx::zero(); Line::PLACES],
+        plan: Schedule::none(),
+        held: Held::none(),
         lines: 0,
     }
 }
@@ -49,46 +70,26 @@ pub fn start() -> Replay
 pub fn feed(r: Replay, part: &[u8], out: &mut [u8]) -> Fed
     ensures { Feeds (reading r) part.now out.old out.new result }
 {
-    let mut store = r.store;
-    let mut txs = r.txs;
-    let mut plan = r.plan;
-    let mut held = r.held;
-    let mut lines = r.lines;
-    let mut n: usize = 0;
-    let mut i: usize = 0;
-    while i < part.len() {
-        if out.len() - n < Text::ROOM {
-            break;
+    let mut replay = r;
+    let mut count: usize = 0;
+    for (taken, b) in part.iter().enumerate() {
+        if out.len() - count < Text::ROOM {
+            return Fed {
+                replay,
+                taken,
+                count,
+            };
         }
-        let b = part[i];
-        i += 1;
-        if b == b'\n' {
-            let line = line_in(held);
-            let p = place_of(line);
-            let t = turn(store, txs[p], plan, line);
-            store = t.store;
-            let x = t.tx;
-            txs[p] = x;
-            plan = t.plan;
-            lines = std::num::wrapping_add_u64(lines, 1);
-            let third = t.third;
-            let more = t.more;
-            n = put_answer(out, n, lines, t.number, third, more);
-            held = Held::none();
+        if *b == b'\n' {
+            count = replay.end_line(out, count);
         } else {
-            held = with_byte(held, b);
+            replay.held.push(*b);
         }
     }
     Fed {
-        replay: Replay {
-            store,
-            txs,
-            plan,
-            held,
-            lines,
-        },
-        taken: i,
-        count: n,
+        replay,
+        taken: part.len(),
+        count,
     }
 }
 
@@ -96,17 +97,9 @@ pub fn feed(r: Replay, part: &[u8], out: &mut [u8]) -> Fed
 pub fn finish(r: Replay, out: &mut [u8]) -> usize
     ensures { Finishes (reading r) out.old out.new result }
 {
-    if r.held.count == 0 {
+    if r.held.count == 0 || out.len() < Text::ROOM {
         return 0;
     }
-    if out.len() < Text::ROOM {
-        return 0;
-    }
-    let line = line_in(r.held);
-    let p = place_of(line);
-    let t = turn(r.store, r.txs[p], r.plan, line);
-    let lines = std::num::wrapping_add_u64(r.lines, 1);
-    let third = t.third;
-    let more = t.more;
-    put_answer(out, 0, lines, t.number, third, more)
+    let mut last = r;
+    last.end_line(out, 0)
 }

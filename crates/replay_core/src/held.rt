@@ -7,6 +7,7 @@ ghost use Rattle.replay_core.specs.Feed.{held_room, held_in};
 
 use script::{Line, parse_line};
 
+// An array and a count: no heap, fixed memory.
 #[derive(Clone, Copy)]
 pub struct Held {
     pub bytes: [u8; Held::ROOM],
@@ -25,32 +26,21 @@ impl Held {
             count: 0,
         }
     }
-}
 
-// One byte more, if there is room.
-pub(crate) fn with_byte(h: Held, b: u8) -> Held
-    ensures { held_in result ≡ take held_room (held_in h ++ b ∷ []) }
-{
-    let n = h.count;
-    if Held::ROOM <= n {
-        return h;
+    // One byte more, if there is room.
+    pub(crate) fn push(&mut self, b: u8)
+        ensures { held_in self.new ≡ take held_room (held_in self.old ++ b ∷ []) }
+    {
+        if self.count < Held::ROOM {
+            self.bytes[self.count] = b;
+            self.count += 1;
+        }
     }
-    let mut bytes = h.bytes;
-    bytes[n] = b;
-    Held {
-        bytes,
-        count: n + 1,
-    }
-}
 
-// The line that it is read as.
-pub(crate) fn line_in(h: Held) -> Line
-    ensures { meaning result ≡ line_of (split 9 (held_in h)) }
-{
-    let bytes = h.bytes;
-    let n = h.count;
-    if Held::ROOM <= n {
-        return parse_line(&bytes);
+    // The line that it is read as.
+    pub(crate) fn line(&self) -> Line
+        ensures { meaning result ≡ line_of (split 9 (held_in self.now)) }
+    {
+        parse_line(&self.bytes[..self.count.min(Held::ROOM)])
     }
-    parse_line(&bytes[..n])
 }

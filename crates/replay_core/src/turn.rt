@@ -4,23 +4,53 @@ mod fault;
 mod lines;
 
 ghost use Rattle.std.specs.Prelude.{◌≡◌};
-ghost use Rattle.rules.specs.Replay.{turn};
+ghost use Rattle.rules.specs.Numbers.{number_of};
+ghost use Rattle.rules.specs.Replay.{num, says, turn};
 ghost use Rattle.script.specs.LineMeaning.{meaning};
-ghost use Rattle.replay_core.specs.Turn.{place_in, at_first, single, turned};
+ghost use Rattle.replay_core.specs.Turn.{place_in, at_first, desk_of, told, turned};
 
-use records::{Schedule, Store, Tx};
+use records::{Cause, Refusal, Schedule, Store, Tx};
 use script::Line;
-use script::print::{More, Third};
+use script::refusal::number_of;
 
-// What a line leaves, and what it answers: the number, the third field, and what follows it.
-#[derive(Drop)]
-pub struct Turned {
+// What a line reads and changes: the store, its place's transaction, the pending faults.
+#[derive(Clone, Copy)]
+pub struct Desk {
     pub store: Store,
     pub tx: Tx,
     pub plan: Schedule,
+}
+
+// What it answers: the number, the third field, and what follows it.
+#[derive(Clone, Copy)]
+pub struct Told {
     pub number: u64,
-    pub third: Third,
-    pub more: More,
+    pub third: Option<u64>,
+    pub more: Option<Cause>,
+}
+
+impl Told {
+    // A number that is no call's.
+    fn number(number: u64) -> Told
+        ensures { told result ≡ says number (num 0) }
+    {
+        Told {
+            number,
+            third: Some(0),
+            more: None,
+        }
+    }
+
+    // A call's number, and what it gave.
+    fn call(why: Refusal, third: u64) -> Told
+        ensures { told result ≡ says (number_of why) (num third) }
+    {
+        Told {
+            number: number_of(why),
+            third: Some(third),
+            more: None,
+        }
+    }
 }
 
 // The place that a line names; a line that names none leaves the first one's transaction as it was.
@@ -28,33 +58,31 @@ pub fn place_of(line: Line) -> usize
     ensures { result ≡ place_in (meaning line) }
 {
     match line {
-        Line::Begin(i) => i,
-        Line::Read(i, _) => i,
-        Line::Write(i, _, _) => i,
-        Line::Lookup(i, _) => i,
-        Line::Lock(i, _) => i,
-        Line::Abort(i) => i,
-        Line::Commit(i, _, _) => i,
-        Line::Fault(_) => 0,
-        Line::Recover => 0,
-        Line::Bad => 0,
+        Line::Begin(i)
+        | Line::Read(i, _)
+        | Line::Write(i, _, _)
+        | Line::Lookup(i, _)
+        | Line::Lock(i, _)
+        | Line::Abort(i)
+        | Line::Commit(i, _, _) => i,
+        Line::Fault(_) | Line::Recover | Line::Bad => 0,
     }
 }
 
-// A line on the store and the transaction of its place.
-pub fn turn(s: Store, x: Tx, plan: Schedule, line: Line) -> Turned
-    ensures { turned result ≡ turn (at_first (meaning line)) (single s x plan) }
+// A line on the desk of its place.
+pub fn turn(d: &mut Desk, line: Line) -> Told
+    ensures { turned d.new result ≡ turn (at_first (meaning line)) (desk_of d.old) }
 {
     match line {
-        Line::Begin(_) => lines::begin_line(s, x, plan),
-        Line::Read(_, r) => lines::read_line(s, x, plan, r),
-        Line::Write(_, r, v) => lines::write_line(s, x, plan, r, v),
-        Line::Lookup(_, k) => lines::lookup_line(s, x, plan, k),
-        Line::Lock(_, r) => lines::lock_line(s, x, plan, r),
-        Line::Abort(_) => lines::abort_line(s, x, plan),
-        Line::Commit(_, logged, cut) => lines::commit_line(s, x, plan, logged, cut),
-        Line::Fault(f) => lines::fault_line(s, x, plan, f),
-        Line::Recover => lines::recover_line(s, x, plan),
-        Line::Bad => lines::bad_line(s, x, plan),
+        Line::Begin(_) => lines::begin_line(d),
+        Line::Read(_, r) => lines::read_line(d, r),
+        Line::Write(_, r, v) => lines::write_line(d, r, v),
+        Line::Lookup(_, k) => lines::lookup_line(d, k),
+        Line::Lock(_, r) => lines::lock_line(d, r),
+        Line::Abort(_) => lines::abort_line(d),
+        Line::Commit(_, logged, cut) => lines::commit_line(d, logged, cut),
+        Line::Fault(f) => lines::fault_line(d, f),
+        Line::Recover => lines::recover_line(d),
+        Line::Bad => lines::bad_line(d),
     }
 }

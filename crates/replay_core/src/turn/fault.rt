@@ -14,11 +14,7 @@ pub(crate) fn with_fault(f: Fault, plan: Schedule) -> Schedule
         return plan;
     }
     let mut faults = [Fault::NONE; Schedule::FAULTS];
-    let mut i: usize = 0;
-    while i < n {
-        faults[i] = plan.faults[i];
-        i += 1;
-    }
+    faults[..n].copy_from_slice(&plan.faults[..n]);
     faults[n] = f;
     Schedule {
         faults,

@@ -1,18 +1,9 @@
--- `line_feeds` meets its contract: the line feeds counted and those left are all.
-use Rattle.std.proofs.Common.{◌<◌, length, arith}
-use Rattle.replay_core.specs.RoomLaws.{feeds_yes, feeds_no, feeds_end}
+-- `line_feeds` meets its contract.
+use Rattle.std.proofs.Common.{◌≡◌, ◌==◌, count_by, sym, ◌∙◌, rules}
+use Rattle.replay_core.specs.RoomLaws.{feeds_count}
 use Rattle.replay_core.proofs.binding.line_feeds.Goals as goal
-use Rattle.replay_core.proofs.binding.line_feeds.Goals.{then-script-i-eq10, else-script-i-eq10}
-
-pub loop-i-preserved : goal.loop-i-preserved
-loop-i-preserved c =
-    let s = c.args.script.now in
-    let i = c.loop-i.i in
-    let h : i < length s = omega arith in
-    elim c.if-script-i-eq10.branch [
-      | then-script-i-eq10 w ↦ (omega arith, omega arith, omega (arith, feeds_yes s i h w.if-script-i-eq10.true))
-      | else-script-i-eq10 w ↦ (omega arith, omega arith, omega (arith, feeds_no s i h w.if-script-i-eq10.false))
-    ]
 
 pub returns : goal.returns
-returns c = let s = c.args.script.now in omega (arith, feeds_end s c.loop-i.i (omega arith))
+returns c =
+    let n : c.count.result ≡ count_by (λ b. b == 10) c.args.script.now = search rules in
+    n ∙ sym (feeds_count c.args.script.now)

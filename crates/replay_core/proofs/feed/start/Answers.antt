@@ -11,10 +11,10 @@ returns c =
     λ i.
     record {
       desk = record {
-        store = c.fresh-store.ensures i;
-        txs = replicate place_limit (c.zero-x.ensures i);
-        plan = c.none-plan.ensures i;
+        store = c.fresh.ensures i;
+        txs = replicate place_limit (c.zero.ensures i);
+        plan = c.none.ensures i;
       };
-      held = c.none-held.ensures i;
+      held = c.none-2.ensures i;
       lines = 0;
     }

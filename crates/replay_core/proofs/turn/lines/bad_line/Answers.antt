@@ -3,4 +3,4 @@ use Rattle.replay_core.specs.Lines.{refused}
 use Rattle.replay_core.proofs.turn.lines.bad_line.Goals as goal
 
 pub returns : goal.returns
-returns c = let a = c.args in refused a.s a.x a.plan
+returns c = let d = c.args.d.now in rw c.number.ensures (refused d.store d.tx d.plan)

@@ -2,9 +2,8 @@
 use Rattle.replay_core.specs.Lines.{begin_refused, begun}
 use Rattle.replay_core.proofs.turn.lines.begin_line.Goals as goal
 
-pub returns-then-number-ne0 : goal.returns-then-number-ne0
-returns-then-number-ne0 c =
-    let a = c.args in begin_refused a.s a.x a.plan c.begin-a.ensures c.number_of-number.ensures c.if-number-ne0.true
+pub returns-in-Done : goal.returns-in-Done
+returns-in-Done c = let d = c.args.d.now in rw c.call.ensures (begun d.store d.tx d.plan c.begin-a.ensures c.in-Done.is)
 
-pub returns : goal.returns
-returns c = let a = c.args in begun a.s a.x a.plan c.begin-a.ensures c.number_of-number.ensures c.if-number-ne0.false
+pub returns-in_default : goal.returns-in_default
+returns-in_default c = let d = c.args.d.now in rw c.call-in_default.ensures (begin_refused d.store d.tx d.plan c.begin-a.ensures c.in_default.not-Done)
