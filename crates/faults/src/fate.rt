@@ -2,28 +2,29 @@
 
 use records::{Fate, Refusal};
 
-// Open for `Done`, which carries none, and for what commit never answers.
-pub fn fate_in(why: Refusal) -> Fate {
+// None for `Done`, which carries none; open for what commit never answers.
+pub fn fate_in(why: Refusal) -> Option<Fate> {
     match why {
-        Refusal::NotResting(f) => f,
-        Refusal::Unfit(f) => f,
-        Refusal::NotActive(f) => f,
-        Refusal::StepFailed(f) => f,
-        Refusal::PrepareFailed(f) => f,
-        Refusal::PreparePanicked(f) => f,
-        Refusal::Conflict(_, f) => f,
-        Refusal::BoundDurably(f) => f,
-        Refusal::FoundPoisoned(f) => f,
-        Refusal::InsertFailed(f) => f,
-        Refusal::CallbackFailed(f) => f,
-        Refusal::CallbackPanicked(f) => f,
-        Refusal::RemoveFailed(f) => f,
-        Refusal::PublishFailed(f) => f,
-        Refusal::RecycleFailed(f) => f,
-        Refusal::FinishFailed(f) => f,
-        Refusal::StampFailed(f) => f,
-        Refusal::CutOff(f) => f,
-        Refusal::CleanupFailed(f) => f,
-        _ => Fate::Open,
+        Refusal::Done => None,
+        Refusal::NotResting(f)
+        | Refusal::Unfit(f)
+        | Refusal::NotActive(f)
+        | Refusal::StepFailed(f)
+        | Refusal::PrepareFailed(f)
+        | Refusal::PreparePanicked(f)
+        | Refusal::Conflict(_, f)
+        | Refusal::BoundDurably(f)
+        | Refusal::FoundPoisoned(f)
+        | Refusal::InsertFailed(f)
+        | Refusal::CallbackFailed(f)
+        | Refusal::CallbackPanicked(f)
+        | Refusal::RemoveFailed(f)
+        | Refusal::PublishFailed(f)
+        | Refusal::RecycleFailed(f)
+        | Refusal::FinishFailed(f)
+        | Refusal::StampFailed(f)
+        | Refusal::CutOff(f)
+        | Refusal::CleanupFailed(f) => Some(f),
+        _ => Some(Fate::Open),
     }
 }

@@ -18,12 +18,13 @@ use exits::written;
 use records::Schedule;
 use std::io;
 use std::process::ExitCode;
+use trial::Trial;
 
 const STEPS: u32 = Schedule::STEPS as u32;
 
 // All steps, unlogged or logged.
-fn try_mode<R: Print>(rt: &R, b: Bench, logged: bool) -> io::Result<()> {
-    row::row(rt, b, logged, trial::none())?;
+fn try_mode<R: Print>(rt: &R, b: &Bench, logged: bool) -> io::Result<()> {
+    row::row(rt, b, logged, &Trial::default())?;
     for step in 1..=STEPS {
         tries::try_step(rt, b, logged, step)?;
     }
@@ -31,10 +32,14 @@ fn try_mode<R: Print>(rt: &R, b: Bench, logged: bool) -> io::Result<()> {
 }
 
 fn table<R: Print>(rt: &R) -> io::Result<()> {
-    let b = bench::prepared();
-    print::legend(rt, b.refused, b.old, b.new)?;
-    try_mode(rt, b, false)?;
-    try_mode(rt, b, true)
+    let Ok(b) = bench::prepared() else {
+        return rt.println("A CALL OF THE PREPARATION WAS REFUSED");
+    };
+    print::legend(rt, &b.old, &b.new)?;
+    for logged in [false, true] {
+        try_mode(rt, &b, logged)?;
+    }
+    Ok(())
 }
 
 fn main(rt: HostRuntime) -> ExitCode {

@@ -1,11 +1,12 @@
 // The lines written.
 
 use super::fate::fate_in;
-use super::shown;
+use super::shown::{Rows, Shown};
 use super::trial::Trial;
 use fields::txids::is_active;
-use records::{Answer, Fate, Fault, RowId, Txid};
+use records::{Answer, Fate, Fault, Refusal, Txid, Value};
 use resting::rest::resting;
+use script::refusal::number_of;
 use std::io;
 
 pub fn tab<R: Print>(rt: &R) -> io::Result<()> {
@@ -16,10 +17,9 @@ pub fn end<R: Print>(rt: &R) -> io::Result<()> {
     rt.print("\n")
 }
 
-fn rows<R: Print>(rt: &R, keys: [u64; RowId::ROWS]) -> io::Result<()> {
-    for r in 0..RowId::ROWS {
-        if keys[r] != 0 {
-            let key = keys[r] - 1;
+fn rows<R: Print>(rt: &R, values: &Rows) -> io::Result<()> {
+    for (r, v) in values.iter().enumerate() {
+        if let Value::Key(key) = v {
             print!(rt; " {r}={key}")?;
         }
     }
@@ -27,15 +27,7 @@ fn rows<R: Print>(rt: &R, keys: [u64; RowId::ROWS]) -> io::Result<()> {
 }
 
 // The rows before and after, and the columns.
-pub fn legend<R: Print>(
-    rt: &R,
-    refused: bool,
-    old: [u64; RowId::ROWS],
-    new: [u64; RowId::ROWS],
-) -> io::Result<()> {
-    if refused {
-        rt.println("A CALL OF THE PREPARATION WAS REFUSED")?;
-    }
+pub fn legend<R: Print>(rt: &R, old: &Rows, new: &Rows) -> io::Result<()> {
     rt.print("old:")?;
     rows(rt, old)?;
     rt.print("new:")?;
@@ -60,25 +52,24 @@ fn failing(fails: bool) -> &'static str {
     if fails { "F0" } else { "-" }
 }
 
-fn first<R: Print>(rt: &R, f: Fault) -> io::Result<()> {
-    if f.step == 0 {
+fn first<R: Print>(rt: &R, first: Option<Fault>) -> io::Result<()> {
+    let Some(f) = first else {
         return rt.print("-\t-");
-    }
+    };
     let step = f.step;
     print!(rt; "{step}\t")?;
     fault(rt, f)
 }
 
-fn rollback<R: Print>(rt: &R, tried: u32) -> io::Result<()> {
-    if tried == 0 {
-        return rt.print("-");
+fn rollback<R: Print>(rt: &R, k: Option<u32>) -> io::Result<()> {
+    match k {
+        None => rt.print("-"),
+        Some(k) => print!(rt; "F{k}"),
     }
-    let k = tried - 1;
-    print!(rt; "F{k}")
 }
 
 // The schedule.
-pub fn trial<R: Print>(rt: &R, logged: bool, t: Trial) -> io::Result<()> {
+pub fn trial<R: Print>(rt: &R, logged: bool, t: &Trial) -> io::Result<()> {
     rt.print(mode(logged))?;
     tab(rt)?;
     first(rt, t.first)?;
@@ -89,15 +80,13 @@ pub fn trial<R: Print>(rt: &R, logged: bool, t: Trial) -> io::Result<()> {
     tab(rt)
 }
 
-fn fate(n: u64, f: Fate) -> &'static str {
-    if n == 0 {
-        return "-";
-    }
-    match f {
-        Fate::Open => "open",
-        Fate::Closed => "closed",
-        Fate::Undone => "undone",
-        Fate::Standing => "standing",
+fn fate(why: Refusal) -> &'static str {
+    match fate_in(why) {
+        None => "-",
+        Some(Fate::Open) => "open",
+        Some(Fate::Closed) => "closed",
+        Some(Fate::Undone) => "undone",
+        Some(Fate::Standing) => "standing",
     }
 }
 
@@ -116,8 +105,9 @@ fn activity(active: bool) -> &'static str {
     if active { "active" } else { "ended" }
 }
 
-pub fn answer<R: Print>(rt: &R, a: Answer, n: u64, t: Txid) -> io::Result<()> {
-    let fate = fate(n, fate_in(a.refusal));
+pub fn answer<R: Print>(rt: &R, a: &Answer, t: Txid) -> io::Result<()> {
+    let n = number_of(a.refusal);
+    let fate = fate(a.refusal);
     let stores = a.stores;
     let store = store(resting(a.store), a.store.doomed, a.store.poisoned);
     let activity = activity(is_active(&a.store.active, t));
@@ -127,29 +117,16 @@ pub fn answer<R: Print>(rt: &R, a: Answer, n: u64, t: Txid) -> io::Result<()> {
     print!(rt; "{n}\t{fate}\t{stores}\t{store}\t{activity}\t{writes}/{reads}/{index_reads}\t")
 }
 
-pub fn sight<R: Print>(rt: &R, v: u8) -> io::Result<()> {
-    rt.print(match v {
-        shown::OLD => "old",
-        shown::NEW => "new",
-        shown::MIXED => "MIXED",
-        shown::REFUSED => "RECOVERY REFUSED",
-        shown::UNREST => "NOT AT REST",
-        shown::WHOLE => "whole",
-        _ => "WRONG ANSWER",
-    })
-}
-
 // Cuts that show the same.
-pub fn run<R: Print>(rt: &R, from: u32, to: u32, v: u8) -> io::Result<()> {
+pub fn run<R: Print>(rt: &R, from: u32, to: u32, seen: Shown) -> io::Result<()> {
     if from != 0 {
         rt.print(", ")?;
     }
     if from == to {
-        print!(rt; "{from} ")?;
+        print!(rt; "{from} {seen}")
     } else {
-        print!(rt; "{from}-{to} ")?;
+        print!(rt; "{from}-{to} {seen}")
     }
-    sight(rt, v)
 }
 
 // The line of the faults that a step doesn't take.

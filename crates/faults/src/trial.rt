@@ -2,32 +2,13 @@
 
 use records::{Fault, Schedule};
 
-// The first fault, none at step 0; whether 21 and 23 fail too; and 24: 0 for no fault, else F with one less for k.
-#[derive(Clone, Copy)]
+// The first fault; whether 21 and 23 fail too; and the k with which 24 does.
+#[derive(Clone, Copy, Default)]
 pub struct Trial {
-    pub first: Fault,
+    pub first: Option<Fault>,
     pub finish: bool,
     pub abort: bool,
-    pub rollback: u32,
-}
-
-pub fn none() -> Trial {
-    Trial {
-        first: Fault::NONE,
-        finish: false,
-        abort: false,
-        rollback: 0,
-    }
-}
-
-fn with(s: Schedule, f: Fault) -> Schedule {
-    let mut t = s;
-    let n = t.count;
-    if n < Schedule::FAULTS {
-        t.faults[n] = f;
-        t.count = n + 1;
-    }
-    t
+    pub rollback: Option<u32>,
 }
 
 fn failing(step: u32, k: u32) -> Fault {
@@ -38,71 +19,69 @@ fn failing(step: u32, k: u32) -> Fault {
     }
 }
 
-pub fn schedule_of(t: Trial) -> Schedule {
-    let mut s = Schedule::none();
-    if t.first.step != 0 {
-        s = with(s, t.first);
+fn push(s: &mut Schedule, f: Fault) {
+    if s.count < Schedule::FAULTS {
+        s.faults[s.count] = f;
+        s.count += 1;
     }
-    if t.finish {
-        s = with(s, failing(21, 0));
+}
+
+impl Trial {
+    // One fault alone.
+    pub fn of(f: Fault) -> Trial {
+        Trial {
+            first: Some(f),
+            ..Trial::default()
+        }
     }
-    if t.abort {
-        s = with(s, failing(23, 0));
+
+    pub fn schedule(&self) -> Schedule {
+        let faults = [
+            self.first,
+            self.finish.then_some(failing(21, 0)),
+            self.abort.then_some(failing(23, 0)),
+            self.rollback.map(|k| failing(24, k)),
+        ];
+        let mut s = Schedule::none();
+        for f in faults.into_iter().flatten() {
+            push(&mut s, f);
+        }
+        s
     }
-    if t.rollback != 0 {
-        s = with(s, failing(24, t.rollback - 1));
-    }
-    s
 }
 
 // How many k are tried, from 0: up to one more than the stores that txid 3 makes at a step that takes k (insertions, removals, marks and
 // heads, slots, stamps, insertions undone). Elsewhere F is also tried with 1, which is unfit.
 pub fn ks_tried(step: u32, letter: u8) -> u32 {
-    if letter != b'F' {
-        return 1;
-    }
-    match step {
-        15 => 5,
-        17 => 5,
-        18 => 9,
-        19 => 4,
-        22 => 7,
-        24 => 5,
-        _ => 2,
+    match (letter, step) {
+        (b'F', 15 | 17 | 24) => 5,
+        (b'F', 18) => 9,
+        (b'F', 19) => 4,
+        (b'F', 22) => 7,
+        (b'F', _) => 2,
+        _ => 1,
     }
 }
 
 // Where a failed first fault is followed by the finish (21), by an abort (23).
 pub fn reaches_finish(f: Fault) -> bool {
-    if f.step == 18 {
-        return true;
-    }
-    f.step == 19
+    matches!(f.step, 18 | 19)
 }
 
 pub fn reaches_abort(f: Fault, logged: bool) -> bool {
-    let step = f.step;
-    match step {
-        5 => logged,
-        6 => logged,
-        7 => f.letter == b'B',
-        8 => f.letter == b'B',
+    match f.step {
+        5 | 6 | 16 => logged,
+        7 | 8 => f.letter == b'B',
         10 => true,
-        16 => logged,
         _ => false,
     }
 }
 
-// By a rollback (24): how many `rollback` are tried, from 0: no fault, and k up to one more than the insertions made.
+// By a rollback (24): how many k it is failed with, from 0: up to one more than the insertions made.
 pub fn rollbacks_tried(f: Fault, logged: bool) -> u32 {
-    if f.step == 15 {
-        if f.k < 3 {
-            return f.k + 3;
-        }
-        return 6;
+    match f.step {
+        15 => f.k.min(3) + 2,
+        16 if logged => 5,
+        _ => 0,
     }
-    if f.step != 16 {
-        return 1;
-    }
-    if logged { 6 } else { 1 }
 }

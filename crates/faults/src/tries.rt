@@ -7,88 +7,67 @@ use super::trial::{Trial, ks_tried, reaches_abort, reaches_finish, rollbacks_tri
 use records::Fault;
 use std::io;
 
-const COUNT: usize = 5;
-
-const LETTERS: [u8; COUNT] = [b'F', b'B', b'P', b'X', b'Q'];
+const LETTERS: [u8; 5] = *b"FBPXQ";
 
 // The rollback after it sound, and failed after each number of stores.
-fn try_rollbacks<R: Print>(
-    rt: &R,
-    b: Bench,
-    logged: bool,
-    first: Fault,
-    finish: bool,
-    abort: bool,
-) -> io::Result<()> {
-    for rollback in 0..rollbacks_tried(first, logged) {
-        row(
-            rt,
-            b,
-            logged,
-            Trial {
-                first,
-                finish,
-                abort,
-                rollback,
-            },
-        )?;
+fn try_rollbacks<R: Print>(rt: &R, b: &Bench, logged: bool, f: Fault, t: &Trial) -> io::Result<()> {
+    row(rt, b, logged, t)?;
+    for k in 0..rollbacks_tried(f, logged) {
+        let failed = Trial {
+            rollback: Some(k),
+            ..*t
+        };
+        row(rt, b, logged, &failed)?;
     }
     Ok(())
 }
 
-// A line for each schedule that the fault leads to; or only its name, where it is unfit.
-fn try_fault<R: Print>(rt: &R, b: Bench, logged: bool, f: Fault, naming: bool) -> io::Result<()> {
-    let unfit = is_unfit(b, logged, f);
-    if naming {
-        if unfit {
-            print::named(rt, f)?;
-        }
+// A line for each schedule that the fault leads to; none where it is unfit.
+fn try_fault<R: Print>(rt: &R, b: &Bench, logged: bool, f: Fault) -> io::Result<()> {
+    if is_unfit(b, logged, f) {
         return Ok(());
     }
-    if unfit {
-        return Ok(());
-    }
-    try_rollbacks(rt, b, logged, f, false, false)?;
+    let alone = Trial::of(f);
+    try_rollbacks(rt, b, logged, f, &alone)?;
     if reaches_finish(f) {
-        try_rollbacks(rt, b, logged, f, true, false)?;
+        let t = Trial {
+            finish: true,
+            ..alone
+        };
+        try_rollbacks(rt, b, logged, f, &t)?;
     }
     if reaches_abort(f, logged) {
-        try_rollbacks(rt, b, logged, f, false, true)?;
+        let t = Trial {
+            abort: true,
+            ..alone
+        };
+        try_rollbacks(rt, b, logged, f, &t)?;
     }
     Ok(())
 }
 
-fn try_letter<R: Print>(
-    rt: &R,
-    b: Bench,
-    logged: bool,
-    step: u32,
-    letter: u8,
-    naming: bool,
-) -> io::Result<()> {
-    for k in 0..ks_tried(step, letter) {
-        try_fault(rt, b, logged, Fault { step, letter, k }, naming)?;
+fn name_unfit<R: Print>(rt: &R, b: &Bench, logged: bool, f: Fault) -> io::Result<()> {
+    if is_unfit(b, logged, f) {
+        print::named(rt, f)?;
     }
     Ok(())
 }
 
-fn try_letters<R: Print>(
-    rt: &R,
-    b: Bench,
-    logged: bool,
-    step: u32,
-    naming: bool,
-) -> io::Result<()> {
+fn each_fault<F: FnMut(Fault) -> io::Result<()>>(step: u32, mut tried: F) -> io::Result<()>
+    requires { (f : _) (x : _) → F.pre f x }
+{
     for letter in LETTERS {
-        try_letter(rt, b, logged, step, letter, naming)?;
+        for k in 0..ks_tried(step, letter) {
+            tried(Fault { step, letter, k })?;
+        }
     }
     Ok(())
 }
 
 // A line for each fit schedule, and one for all faults that are answered 2.
-pub fn try_step<R: Print>(rt: &R, b: Bench, logged: bool, step: u32) -> io::Result<()> {
-    try_letters(rt, b, logged, step, false)?;
+pub fn try_step<R: Print>(rt: &R, b: &Bench, logged: bool, step: u32) -> io::Result<()> {
+    each_fault(step, |f| try_fault(rt, b, logged, f))?;
     print::unfit(rt, logged, step)?;
-    try_letters(rt, b, logged, step, true)?;
+    each_fault(step, |f| name_unfit(rt, b, logged, f))?;
     print::end(rt)
 }
