@@ -56,9 +56,7 @@ fn replay_names<R: Env + Files + Input + Print + Eprint + AllocGlobal>(rt: &R) -
 }
 
 fn main(rt: HostRuntime) -> ExitCode {
-    let ended = match replay_names(&rt) {
-        Some(ended) => ended,
-        None => replay_input(&rt),
-    };
-    ended.code()
+    replay_names(&rt)
+        .unwrap_or_else(|| replay_input(&rt))
+        .code()
 }

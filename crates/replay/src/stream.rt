@@ -27,13 +27,12 @@ fn replay_part<R: Print + Eprint + AllocGlobal>(
 ) -> Result<Replay, Exit> {
     let mut out = [0u8; ROOM];
     let mut next = r;
-    let mut at: usize = 0;
-    while at < part.len() {
-        let f = feed(next, &part[at..], &mut out);
-        let n = f.count;
+    let mut rest = part;
+    while !rest.is_empty() {
+        let f = feed(next, rest, &mut out);
+        write_out(rt, &out[..f.count])?;
         next = f.replay;
-        at += f.taken;
-        write_out(rt, &out[..n])?;
+        rest = &rest[f.taken..];
     }
     Ok(next)
 }
