@@ -1,34 +1,17 @@
--- The rules for used slots, off the chains and on them; and the scan of the used slots.
-use Rattle.std.specs.Prelude.{◌≡◌, Bool, true, false, ◌||◌, List, ℕ, ◌+◌, ◌<◌, ◌≤◌, length, get_or, drop, eqb}
-use Rattle.std.proofs.Common.{drop_of_length-le, drop-cons}
+-- The rules for used slots, off the chains and on them; and the test of all used slots.
+use Rattle.std.specs.Prelude.{◌≡◌, refl, Bool, ◌||◌, List, [], ◌∷◌, ℕ, suc, eqb}
+use Rattle.std.specs.List.{list_all, enumerate_from}
 use Rattle.std.proofs.Math.Numerals.{add-one}
-use borrow.Author.Tests.{eq-eqb, ne_eqb}
+use Rattle.basic_laws.specs.Cases.{by}
 use Rattle.rules.specs.Types.{Store}
-use Rattle.rules.specs.Lists.{all, nonzero_from}
+use Rattle.rules.specs.Lists.{all, is_zero, nonzero_from}
 use Rattle.rules.specs.Admitted.{off_ok, rests_at}
 use Rattle.resting.specs.VersionTurns.{fin}
 
--- every used slot from i on passes
-unfoldable pub used_left : (ℕ → Bool) → List ℕ → ℕ → Bool
-used_left f l i = all f (nonzero_from i (drop i l))
-
-module _ (f : ℕ → Bool) (l : List ℕ) (i : ℕ) (w : Bool) (left : used_left f l i ≡ w) where
-  -- the slot at i is free, or passes, or fails, or none is left
-  pub used_free : i < length l → get_or l i 0 ≡ 0 → used_left f l (i + 1) ≡ w
-  unfolding used_left
-  used_free h e = rw add-one (rw (drop-cons l i 0 h, eq-eqb (get_or l i 0) 0 e) at left)
-
-  pub used_pass : i < length l → (get_or l i 0 ≡ 0 → ⊥) → f i ≡ true → used_left f l (i + 1) ≡ w
-  unfolding used_left
-  used_pass h e t = rw add-one (rw (drop-cons l i 0 h, ne_eqb (get_or l i 0) 0 e, t) at left)
-
-  pub used_fail : i < length l → (get_or l i 0 ≡ 0 → ⊥) → f i ≡ false → false ≡ w
-  unfolding used_left
-  used_fail h e t = rw (drop-cons l i 0 h, ne_eqb (get_or l i 0) 0 e, t) at left
-
-  pub used_end : length l ≤ i → true ≡ w
-  unfolding used_left
-  used_end h = rw (drop_of_length-le l {i = i} h) at left
+-- a test of the used slots, as one of all slots beside their xmins, counted from n on
+pub used_pairs : (f : ℕ → Bool) (n : ℕ) (l : List ℕ) → list_all (λ (p : ℕ × ℕ). is_zero p.1 || f p.0) (enumerate_from n l) ≡ all f (nonzero_from n l)
+used_pairs f n [] = refl
+used_pairs f n (x ∷ l) = by (eqb x 0) (λ e. rw (e, add-one n, used_pairs f (suc n) l)) (λ e. rw (e, add-one n, used_pairs f (suc n) l))
 
 -- the rule for a used slot off every chain
 unfoldable pub off_at : Store → List ℕ → ℕ → Bool

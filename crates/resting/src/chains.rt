@@ -1,7 +1,6 @@
 // The versions of the chains, and the used slots on them and off them.
 
-ghost use Rattle.std.specs.Prelude.{◌≡◌, ◌<◌};
-ghost use Rattle.records.specs.Limits.{places};
+ghost use Rattle.std.specs.Prelude.{◌≡◌};
 ghost use Rattle.rules.specs.Lists.{all};
 ghost use Rattle.rules.specs.Store.{used_slots};
 ghost use Rattle.rules.specs.Admitted.{finished};
@@ -76,23 +75,22 @@ pub fn chains_ok(s: &Store) -> bool
 
 // "a used slot off every chain has an unfinished xmin, xmax 0, next at most" the last slot: the slot at place i.
 fn off_ok(s: &Store, seen: &[u8; SlotPtr::PLACES], i: usize) -> bool
-    requires { i < places }
     ensures { result ≡ off_at s.now seen.now i }
 {
-    seen[i] != 0
-        || (!is_finished(s, s.xmin[i]) && s.xmax[i] == 0 && place(s.next[i]) <= SlotPtr::SLOTS)
+    at(seen, i, 0) != 0
+        || (!is_finished(s, at(&s.xmin, i, 0))
+            && at(&s.xmax, i, 0) == 0
+            && place(at(&s.next, i, 0)) <= SlotPtr::SLOTS)
 }
 
 // Every used slot off the chains.
 pub fn off_slots_ok(s: &Store, seen: &[u8; SlotPtr::PLACES]) -> bool
     ensures { result ≡ all (off_at s.now seen.now) (used_slots s.now.xmin) }
 {
-    for (i, t) in s.xmin.iter().enumerate() {
-        if *t != 0 && !off_ok(s, seen, i) {
-            return false;
-        }
-    }
-    true
+    s.xmin
+        .iter()
+        .enumerate()
+        .all(|(i, t)| *t == 0 || off_ok(s, seen, i))
 }
 
 // Finished, or the doomed one.
@@ -104,20 +102,17 @@ fn settled(s: &Store, t: u64) -> bool
 
 // "any unfinished txid found as a chain's xmin or xmax is the doomed one": the slot at place i.
 fn rest_ok(s: &Store, seen: &[u8; SlotPtr::PLACES], i: usize) -> bool
-    requires { i < places }
     ensures { result ≡ rest_at s.now seen.now i }
 {
-    seen[i] == 0 || (settled(s, s.xmin[i]) && settled(s, s.xmax[i]))
+    at(seen, i, 0) == 0 || (settled(s, at(&s.xmin, i, 0)) && settled(s, at(&s.xmax, i, 0)))
 }
 
 // Every used slot on a chain.
 pub fn chains_rest(s: &Store, seen: &[u8; SlotPtr::PLACES]) -> bool
     ensures { result ≡ all (rest_at s.now seen.now) (used_slots s.now.xmin) }
 {
-    for (i, t) in s.xmin.iter().enumerate() {
-        if *t != 0 && !rest_ok(s, seen, i) {
-            return false;
-        }
-    }
-    true
+    s.xmin
+        .iter()
+        .enumerate()
+        .all(|(i, t)| *t == 0 || rest_ok(s, seen, i))
 }

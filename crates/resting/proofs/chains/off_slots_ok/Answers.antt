@@ -1,24 +1,17 @@
--- `off_slots_ok` meets its contract: what is left from place i on decides as the whole does.
-use mathlib.Core.Path.{sym, ◌∙◌, refl}
-use native.Mathlib.Omega.{arith}
-use Rattle.resting.specs.Used.{used_left, used_free, used_pass, used_fail, used_end}
+-- `off_slots_ok` meets its contract.
+use mathlib.Core.Path.{◌∙◌}
+use mathlib.Core.Bool.{◌||◌}
+use borrow.Author.Rules.{rules}
+use Rattle.std.proofs.Common.{tests}
+use Rattle.std.proofs.lemmas.Iterator.{YieldsList-from_slice}
+use Rattle.std.proofs.lemmas.Iterator.Search.{all_from_yields_List}
+use Rattle.std.proofs.lemmas.Iterator.Consumers.{YieldsList-from_enumerate}
+use Rattle.rules.specs.Lists.{is_zero}
+use Rattle.resting.specs.Used.{off_at, used_pairs}
 use Rattle.resting.proofs.chains.off_slots_ok.Goals as goal
-use Rattle.resting.proofs.chains.off_slots_ok.Goals.{else-t-ne0-via-then-t-ne0+else-not-off_ok, else-t-ne0-via-else-t-ne0}
-
-pub loop-i-init : goal.loop-i-init
-unfolding used_left
-loop-i-init c = refl
-
-pub returns-then-not-off_ok : goal.returns-then-not-off_ok
-returns-then-not-off_ok c =
-    used_fail _ _ _ _ c.loop-i.invariant (omega arith) c.if-t-ne0.true (sym c.off_ok.ensures ∙ c.if-not-off_ok.true)
-
-pub loop-i-preserved : goal.loop-i-preserved
-loop-i-preserved c = elim c.else-t-ne0.branch [
-  | else-t-ne0-via-then-t-ne0+else-not-off_ok w ↦
-      used_pass _ _ _ _ c.loop-i.invariant (omega arith) w.if-t-ne0.true (sym w.off_ok.ensures ∙ w.if-not-off_ok.false)
-  | else-t-ne0-via-else-t-ne0 w ↦ used_free _ _ _ _ c.loop-i.invariant (omega arith) w.if-t-ne0.false
-]
 
 pub returns : goal.returns
-returns c = used_end _ _ _ _ c.loop-i.invariant (omega arith)
+returns c =
+    all_from_yields_List (λ p. is_zero p.1 || off_at c.args.s.now c.args.seen.now p.0) c.all.new.self _ _ c.all.ensures.ran
+    (YieldsList-from_enumerate (YieldsList-from_slice c.args.s.now.xmin cc) cc) (λ x b q k. search (rules, tests))
+    ∙ used_pairs (off_at c.args.s.now c.args.seen.now) 0 c.args.s.now.xmin
