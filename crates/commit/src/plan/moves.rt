@@ -109,8 +109,8 @@ pub fn index_changes(s: &Store, writes: &[Write]) -> Moves
         stripes: [false; Store::STRIPES],
     };
     for w in writes {
-        let before = value_at(&s.key, &s.has, w.base);
-        let after = value_at(&s.key, &s.has, w.new);
+        let before = value_at(s, w.base);
+        let after = value_at(s, w.new);
         if before != after {
             m.note(w.row, before, after);
         }
