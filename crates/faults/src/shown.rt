@@ -37,7 +37,7 @@ pub type Rows = [Value; RowId::ROWS];
 
 // The heads' values: what the rows of a recovered store show.
 pub fn rows_of(s: &Store) -> Rows {
-    s.heads.map(|p| value_at(&s, SlotPtr(p)))
+    s.heads.map(|p| value_at(s, SlotPtr(p)))
 }
 
 pub fn compared(rows: &Rows, old: &Rows, new: &Rows) -> Shown {
