@@ -15,6 +15,7 @@ fn push_marked<F: Fn(usize) -> Put>(marks: &[bool], put: F, limit: usize, j: &mu
     ensures { (f : ℕ → RulesPut) → ((i : ℕ) (p : _) → i < length marks.now → F.post put i p → meant p ≡ f i)
         → Adds j.old (take limit (placed f marks.now)) j.new }
 {
+    // counted, since the checker refuses a loop over `filter` and `take` in a generic function (tried)
     let mut left = limit;
     for (i, mark) in marks.iter().enumerate() {
         if left == 0 {

@@ -71,7 +71,7 @@ impl Put {
     }
 }
 
-// Puts in their order, with room for the longest run's.
+// Puts in their order, with room for the longest run's: an array and a count, since nothing is allocated; contracts see the list.
 #[derive(Drop)]
 pub struct Journal {
     puts: [Put; Journal::PUTS],

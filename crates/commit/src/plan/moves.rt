@@ -12,7 +12,7 @@ use records::{RowId, Store, Tx, Value, Write};
 use std::marker::Model;
 use visibility::slots::value_at;
 
-// Postings, at most one for a write.
+// Postings, at most one for a write: an array and a count, since nothing is allocated; contracts see the list.
 #[derive(Drop)]
 pub struct Codes {
     at: [u64; Tx::WRITES],
