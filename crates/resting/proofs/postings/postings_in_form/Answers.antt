@@ -14,7 +14,8 @@ use Rattle.resting.proofs.postings.postings_in_form.Goals.{then-s-le-POSTINGS, e
 pub returns-then-postings_rise : goal.returns-then-postings_rise
 returns-then-postings_rise c =
     let S = c.args.s.now in
-    let first : c.if-s-le-POSTINGS.value ≡ (leb S.posting_count posting_limit && climb suc keyed 0 (take S.posting_count S.postings)) = elim c.if-s-le-POSTINGS.branch [
+    let first : c.if-s-le-POSTINGS.value ≡ (leb S.posting_count posting_limit && climb suc keyed 0 (take S.posting_count S.postings)) =
+    elim c.if-s-le-POSTINGS.branch [
       | then-s-le-POSTINGS w ↦ rw (le-leb _ _ w.if-s-le-POSTINGS.true) (w.value-is ∙ w.postings_rise.ensures)
       | else-s-le-POSTINGS w ↦ rw (lt-leb _ _ w.if-s-le-POSTINGS.false) (w.value-is ∙ lt-leb _ _ w.if-s-le-POSTINGS.false)
     ] in
@@ -23,7 +24,8 @@ returns-then-postings_rise c =
 pub returns-else-postings_rise : goal.returns-else-postings_rise
 returns-else-postings_rise c =
     let S = c.args.s.now in
-    let first : c.if-s-le-POSTINGS.value ≡ (leb S.posting_count posting_limit && climb suc keyed 0 (take S.posting_count S.postings)) = elim c.if-s-le-POSTINGS.branch [
+    let first : c.if-s-le-POSTINGS.value ≡ (leb S.posting_count posting_limit && climb suc keyed 0 (take S.posting_count S.postings)) =
+    elim c.if-s-le-POSTINGS.branch [
       | then-s-le-POSTINGS w ↦ rw (le-leb _ _ w.if-s-le-POSTINGS.true) (w.value-is ∙ w.postings_rise.ensures)
       | else-s-le-POSTINGS w ↦ rw (lt-leb _ _ w.if-s-le-POSTINGS.false) (w.value-is ∙ lt-leb _ _ w.if-s-le-POSTINGS.false)
     ] in

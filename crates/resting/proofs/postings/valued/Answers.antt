@@ -12,5 +12,6 @@ use Rattle.resting.proofs.postings.valued.Goals as goal
 pub returns : goal.returns
 returns c =
     count_from_yields_List c.filter.result _ c.count.ensures.ran
-    (YieldsList-from_filter _ (valued_by c.args.s.now) (YieldsList-from_slice c.args.s.now.heads cc) c.filter.ensures.closure (λ x b q k. search (rules, tests)))
+    (YieldsList-from_filter _ (valued_by c.args.s.now) (YieldsList-from_slice c.args.s.now.heads cc) c.filter.ensures.closure
+    (λ x b q k. search (rules, tests)))
     ∙ ap length (those_of_list (valued_by c.args.s.now) c.args.s.now.heads)

@@ -10,7 +10,8 @@ returns-then-s-ne0 c = form_zero c.args.s.now c.if-s-ne0.true
 
 pub returns-then-not-slot_in_form : goal.returns-then-not-slot_in_form
 returns-then-not-slot_in_form c =
-    form_says c.args.s.now c.if-s-ne0.false (form_fail c.args.s.now (search rules) _ c.loop-i.invariant (omega arith) (sym c.slot_in_form.ensures ∙ c.if-not-slot_in_form.true))
+    form_says c.args.s.now c.if-s-ne0.false
+    (form_fail c.args.s.now (search rules) _ c.loop-i.invariant (omega arith) (sym c.slot_in_form.ensures ∙ c.if-not-slot_in_form.true))
 
 pub loop-i-preserved : goal.loop-i-preserved
 loop-i-preserved c = form_pass c.args.s.now (search rules) _ c.loop-i.invariant (omega arith) (sym c.slot_in_form.ensures ∙ c.if-not-slot_in_form.false)
