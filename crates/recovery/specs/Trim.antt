@@ -1,7 +1,10 @@
 -- Trimming the heads, row by row.
-use Rattle.std.specs.Prelude.{◌≡◌, refl, Bool, true, false, List, [], ◌∷◌, ◌++◌, map, ℕ, suc, ◌+◌, ◌<◌, ◌≤◌, length, get_or, set, take, drop}
-use Rattle.std.proofs.Common.{sym, append_assoc, append-nil, add-one, arith, eq-eqb, ne_eqb, drop_of_length-le}
-use Rattle.std.proofs.Math.Seq.{drop-cons, take_all, take-suc-set, drop-set-lt}
+use Rattle.std.specs.Prelude.{◌≡◌, Bool, true, false, List, map, ℕ, zero, suc, ◌+◌, length, get_or, drop}
+use Rattle.std.proofs.Common.{add-one, arith, eq-eqb, ne_eqb, drop_of_length-le}
+use Rattle.std.proofs.Math.Seq.{drop-cons}
+use Rattle.std.specs.Fn.{Called}
+use Rattle.std.specs.Array.{MapsFrom}
+use denote.Param.Members.{Mut}
 use Rattle.rules.specs.Recovery.{trim_head}
 
 -- the ways a head h comes out; t is its xmin, w the next pointer
@@ -16,23 +19,12 @@ module _ (fin : ℕ → Bool) (xmin next : List ℕ) (h : ℕ) where
     pub trim_next : (w : ℕ) → fin t ≡ false → w ≡ get_or next h 0 → w ≡ trim_head fin xmin next h
     trim_next w d o = rw (ne_eqb h 0 n, ← e, d) o
 
--- the places before i as they are, the rest to be changed by f; shut, so that a law finds its parts
-unfoldable pub map_left : (ℕ → ℕ) → List ℕ → ℕ → List ℕ
-map_left f x i = take i x ++ map f (drop i x)
-
--- every place is left
-pub map_start : (f : ℕ → ℕ) (x : List ℕ) → map_left f x 0 ≡ map f x
-unfolding map_left
-map_start f x = refl
-
--- the one at i is changed; none is left
-module _ (f : ℕ → ℕ) (x : List ℕ) (i : ℕ) where
-  pub map_turn : (v : ℕ) → i < length x → v ≡ f (get_or x i 0) → map_left f (set x i v) (i + 1) ≡ map_left f x i
-  unfolding map_left
-  map_turn v h e =
-      rw (add-one, take-suc-set x i v h, drop-set-lt (suc i) x i v (omega arith), drop-cons x i 0 h, e)
-      (append_assoc (take i x) (f (get_or x i 0) ∷ []) (map f (drop (suc i) x)))
-
-  pub map_end : length x ≤ i → x ≡ map_left f x i
-  unfolding map_left
-  map_end h = rw (drop_of_length-le x {i = i} h, take_all i x h) (sym (append-nil x))
+-- an array that a function's calls gave, one for each element from place i on
+pub mapped : {F A B : Type 0} (g : Mut F (A × Unit {0}) B) (h : A → B) (f : F) → ((x : A) (y : B) (q : F) → Called g f (x, tt) y q → (q ≡ f) × (y ≡ h x))
+    → (n i : ℕ) (xs : List A) (ys : List B) → length xs ≡ i + n → length ys ≡ i + n → MapsFrom g f xs ys i n → drop i ys ≡ map h (drop i xs)
+mapped g h f k zero i xs ys p q m = rw (drop_of_length-le xs {i = i} (omega arith), drop_of_length-le ys {i = i} (omega arith))
+mapped g h f k (suc n) i xs ys p q m =
+    let s = k m.1 m.2 m.0 m.5 in
+    let rest = rw s.0 at m.6 in
+    let later = mapped g h f k n (i + 1) xs ys (omega arith) (omega arith) rest in
+    rw (drop-cons xs i m.1 (omega arith), m.3.0, drop-cons ys i m.2 (omega arith), m.4.0, s.1, ← add-one i, later, add-one i)

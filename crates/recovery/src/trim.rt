@@ -24,9 +24,5 @@ fn trimmed(s: &Store, h: u32) -> u32
 pub fn trim_heads(s: &Store) -> [u32; RowId::ROWS]
     ensures { result ≡ map (trim_head (finished s.now.active s.now.doomed) s.now.xmin s.now.next) s.now.heads }
 {
-    let mut heads = s.heads;
-    for r in 0..RowId::ROWS {
-        heads[r] = trimmed(s, heads[r]);
-    }
-    heads
+    s.heads.map(|h| trimmed(s, h))
 }

@@ -1,16 +1,14 @@
--- `trim_heads` meets its contract: the rows before `r` are trimmed.
-use mathlib.Core.Path.{◌∙◌}
+-- `trim_heads` meets its contract: each head is trimmed.
 use native.Mathlib.Omega.{arith}
-use lib.ListN.{length-set}
-use Rattle.recovery.specs.Trim.{map_start, map_turn, map_end}
+use borrow.Author.Rules.{rules}
+use Rattle.rules.specs.Admitted.{finished}
+use Rattle.rules.specs.Recovery.{trim_head}
+use Rattle.records.specs.Limits.{rows}
+use Rattle.recovery.specs.Trim.{mapped}
 use Rattle.recovery.proofs.trim.trim_heads.Goals as goal
 
-pub loop-r-init : goal.loop-r-init
-loop-r-init c = (omega arith, map_start _ _)
-
-pub loop-r-preserved : goal.loop-r-preserved
-loop-r-preserved c =
-    (simp length-set c.loop-r.invariant.0, map_turn _ _ _ _ (omega arith) c.trimmed.ensures ∙ c.loop-r.invariant.1)
-
 pub returns : goal.returns
-returns c = map_end _ _ _ (omega arith) ∙ c.loop-r.invariant.1
+returns c =
+    let S = c.args.s.now in
+    mapped _ (trim_head (finished S.active S.doomed) S.xmin S.next) _ (λ x y q k. search rules) rows 0 S.heads c.map.result
+    (omega arith) c.map.ensures.items.long c.map.ensures.items.each
