@@ -46,8 +46,8 @@ pub fn admitted_marked(s: Store, x: Tx, planned: bool, seen: &mut [u8; SlotPtr::
     ensures answer { result ≡ admitted s x planned }
     ensures marks { seen.new ≡ (walk (at_rows s.heads) (at_places s.next)).seen }
 {
-    let rests = resting_marked(&s, seen);
-    let fits = fit_of(&s.xmin, &s.next, s.clock, seen, x);
+    let rests = resting_marked(s, seen);
+    let fits = fit_of(&s, seen, &x);
     let active = is_active(&s.active, x.txid);
     tried(rests, fits, planned, active)
 }

@@ -1,4 +1,4 @@
-pub mod Apart
 pub mod Allowed
-pub mod Fitting
+pub mod Apart
 pub mod Fits
+pub mod Fitting

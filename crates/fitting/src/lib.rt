@@ -2,5 +2,6 @@
 
 #![tactic(auto)]
 
+mod apart;
 pub mod schedule;
 pub mod tx;

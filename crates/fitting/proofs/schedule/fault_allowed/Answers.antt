@@ -1,22 +1,16 @@
--- `fault_allowed` meets its contract.
-use Rattle.fitting.specs.Allowed.{allowed_not, allowed_plain, allowed_other, allowed_counted}
+-- `fault_allowed` meets its contract, by the law of the masks.
+use Rattle.std.proofs.Common.{rules}
+use Rattle.fitting.specs.Allowed.{allowed_by}
 use Rattle.fitting.proofs.schedule.fault_allowed.Goals as goal
 
-pub returns-then-mask-bit-ne1 : goal.returns-then-mask-bit-ne1
-returns-then-mask-bit-ne1 c =
-    allowed_not _ _ _ _ _ c.ranges.letter.fits c.allowed_at-mask.ensures c.bit_of-bit.ensures c.if-mask-bit-ne1.true
+pub returns-then-f-eq0 : goal.returns-then-f-eq0
+returns-then-f-eq0 c = let law = allowed_by c.args.f.now _ _ (search rules) c.allowed_at-mask.ensures c.bit_of.ensures in search rules
 
-pub returns-then-k-eq0 : goal.returns-then-k-eq0
-returns-then-k-eq0 c =
-    allowed_plain _ _ _ _ _ c.ranges.letter.fits c.allowed_at-mask.ensures
-    c.bit_of-bit.ensures c.if-mask-bit-ne1.false c.if-k-eq0.true
+pub returns-then-mask-eq1 : goal.returns-then-mask-eq1
+returns-then-mask-eq1 c = let law = allowed_by c.args.f.now _ _ (search rules) c.allowed_at-mask.ensures c.bit_of.ensures in search rules
 
-pub returns-then-letter-ne70 : goal.returns-then-letter-ne70
-returns-then-letter-ne70 c =
-    allowed_other _ _ _ _ _ c.ranges.letter.fits c.allowed_at-mask.ensures
-    c.bit_of-bit.ensures c.if-mask-bit-ne1.false c.if-k-eq0.false c.if-letter-ne70.true
+pub returns-else-mask-eq1 : goal.returns-else-mask-eq1
+returns-else-mask-eq1 c = let law = allowed_by c.args.f.now _ _ (search rules) c.allowed_at-mask.ensures c.bit_of.ensures in search rules
 
-pub returns : goal.returns
-returns c =
-    allowed_counted _ _ _ _ _ c.ranges.letter.fits c.allowed_at-mask.ensures
-    c.bit_of-bit.ensures c.if-mask-bit-ne1.false c.if-k-eq0.false c.if-letter-ne70.false
+pub returns-else-mask-bit_of-eq1 : goal.returns-else-mask-bit_of-eq1
+returns-else-mask-bit_of-eq1 c = let law = allowed_by c.args.f.now _ _ (search rules) c.allowed_at-mask.ensures c.bit_of.ensures in search rules
