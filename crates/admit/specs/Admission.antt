@@ -1,14 +1,39 @@
--- The refusals that every call but begin and recovery tries first.
-use Rattle.std.specs.Prelude.{◌≡◌, refl, Bool, true, false, not, ◌&&◌, [], ◌∷◌}
+-- The refusals that every call but begin and recovery tries first, and refusals as the results of code.
+use Rattle.std.specs.Prelude.{◌≡◌, refl, Bool, true, false, not, cond, ◌&&◌, [], ◌∷◌, Result, Ok, Err}
+use Rattle.std.proofs.Common.{ap, ◌∙◌}
 use Rattle.std.proofs.Math.Bool.{and-true}
 use Rattle.rules.specs.Lists.{memb}
-use Rattle.basic_laws.specs.Cases.{clash}
+use Rattle.basic_laws.specs.Cases.{by, clash}
 use Rattle.rules.specs.Types.{Store, Tx, Open, Closed, Refusal, NotResting, Unfit, NotActive}
 use Rattle.rules.specs.Store.{active_txids}
 use Rattle.rules.specs.Admitted.{resting}
 use Rattle.rules.specs.Fit.{fit}
 use Rattle.rules.specs.Numbers.{refuse, tries, is_done}
 use Rattle.rules.specs.Calls.{admits}
+
+-- what the rules refuse, as a result: `Done` is no error
+unfoldable pub as_result : Refusal → Result (Unit {0}) Refusal
+as_result w = cond (is_done w) (Ok tt) (Err w)
+
+-- an error is what was refused; with no error nothing was
+pub refused_is : (v w : Refusal) → Err v ≡ as_result w → (v ≡ w) × (is_done v ≡ false)
+unfolding as_result
+refused_is v w e = by (is_done w)
+    (λ y. absurd (apart (rw y at e)))
+    (λ n. let same = only (rw n at e) in (same, ap is_done same ∙ n))
+  where
+    apart : {v : Refusal} → ◌≡◌ {A = Result (Unit {0}) Refusal} (Err v) (Ok tt) → ⊥
+    apart e = cc
+
+    only : {v u : Refusal} → ◌≡◌ {A = Result (Unit {0}) Refusal} (Err v) (Err u) → v ≡ u
+    only e = cc
+
+pub done_is : (u : Unit {0}) (w : Refusal) → Ok u ≡ as_result w → is_done w ≡ true
+unfolding as_result
+done_is u w e = by (is_done w) (λ y. y) (λ n. absurd (apart (rw n at e)))
+  where
+    apart : {u : Unit {0}} {v : Refusal} → ◌≡◌ {A = Result (Unit {0}) Refusal} (Ok u) (Err v) → ⊥
+    apart e = cc
 
 -- numbers 1, 2 and 3
 unfoldable pub tried_by : Bool → Bool → Bool → Refusal

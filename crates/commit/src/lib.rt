@@ -10,7 +10,7 @@ mod plan;
 mod planning;
 mod run;
 
-use admit::admission::{admitted_marked, is_done};
+use admit::admission::admitted_marked;
 use fitting::schedule::schedule_fit;
 use records::{Answer, Cut, Schedule, SlotPtr, Store, Tx};
 
@@ -19,8 +19,7 @@ pub fn commit(s: Store, x: Tx, logged: bool, plan: Schedule, cut: Cut) -> Answer
     ensures { result ≡ commit s x logged plan cut }
 {
     let mut seen = [0; SlotPtr::PLACES];
-    let why = admitted_marked(s, x, schedule_fit(plan), &mut seen);
-    if !is_done(why) {
+    if let Err(why) = admitted_marked(&s, &x, schedule_fit(plan), &mut seen) {
         return answers::unchanged(s, x, why);
     }
     run::run(s, x, logged, plan, cut, &seen)
