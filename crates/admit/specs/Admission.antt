@@ -12,12 +12,11 @@ use Rattle.rules.specs.Numbers.{refuse, tries, is_done}
 use Rattle.rules.specs.Calls.{admits}
 
 -- what the rules refuse, as a result: `Done` is no error
-unfoldable pub as_result : Refusal → Result (Unit {0}) Refusal
+abbrev pub as_result : Refusal → Result (Unit {0}) Refusal
 as_result w = cond (is_done w) (Ok tt) (Err w)
 
 -- an error is what was refused; with no error nothing was
 pub refused_is : (v w : Refusal) → Err v ≡ as_result w → (v ≡ w) × (is_done v ≡ false)
-unfolding as_result
 refused_is v w e = by (is_done w)
     (λ y. absurd (apart (rw y at e)))
     (λ n. let same = only (rw n at e) in (same, ap is_done same ∙ n))
@@ -29,7 +28,6 @@ refused_is v w e = by (is_done w)
     only e = cc
 
 pub done_is : (u : Unit {0}) (w : Refusal) → Ok u ≡ as_result w → is_done w ≡ true
-unfolding as_result
 done_is u w e = by (is_done w) (λ y. y) (λ n. absurd (apart (rw n at e)))
   where
     apart : {u : Unit {0}} {v : Refusal} → ◌≡◌ {A = Result (Unit {0}) Refusal} (Ok u) (Err v) → ⊥

@@ -26,7 +26,7 @@ pub fn refuse(test: bool, why: Refusal) -> Result<(), Refusal>
 }
 
 // The first of 1, 2 and 3 that holds.
-#[tactic(auto, unfolding(crate::specs::Admission::tried_by, crate::specs::Admission::as_result))]
+#[tactic(auto, unfolding(crate::specs::Admission::tried_by))]
 fn tried(rests: bool, fits: bool, planned: bool, active: bool) -> Result<(), Refusal>
     ensures { result ≡ as_result (tried_by rests (fits && planned) active) }
 {

@@ -9,3 +9,4 @@ pub mod WriteAnswer
 pub mod AbortAnswer
 pub mod ReadAnswer
 pub mod LookupAnswer
+pub mod Passed

@@ -1,24 +1,18 @@
 -- Row lock: why it refuses, and its answer.
-use Rattle.std.specs.Prelude.{◌≡◌, Bool, List, [], ◌∷◌, ℕ, ◌<◌, length, get_or, eqb, ltb, leb}
+use Rattle.std.specs.Prelude.{◌≡◌, Bool, List, [], ◌∷◌, ℕ, get_or, eqb, leb}
 use Rattle.std.proofs.Math.Path.{refl}
-use Rattle.std.proofs.Common.{sym, ap, ◌∙◌, arith, lit<, ltb-true, ltb-false}
+use Rattle.std.proofs.Common.{sym, ap, ◌∙◌}
 use Rattle.std.proofs.Math.Bool.{true, false, cond}
-use Rattle.std.proofs.Math.ListN.{get_or-eq_default}
-use Rattle.records.specs.Limits.{rows, places}
-use Rattle.basic_laws.specs.Cases.{by}
+use Rattle.records.specs.Limits.{rows}
 use Rattle.rules.specs.Types.{Store, Tx, Reply, Refusal, RowTooHigh, LockedByAnother, NoHead, Open}
-use Rattle.rules.specs.Admitted.{resting}
 use Rattle.rules.specs.Numbers.{Try, refuse, tries, is_done}
 use Rattle.rules.specs.Puts.{put_lock, apply_all}
 use Rattle.rules.specs.Calls.{admits_healthy, locked_by_another, row_lock}
 use Rattle.statements.specs.Sized.{Sized}
-use Rattle.basic_laws.specs.Chain.{IsChain}
-use Rattle.basic_laws.specs.Chained.{walk_sound}
-use Rattle.basic_laws.specs.TestParts.{repairable_parts, resting_parts}
 use Rattle.fields.specs.Lent.{at_rows, at_places, flags_at_places, at_active}
 use Rattle.fields.specs.Locks.{locked_of, locked_of_law}
 use Rattle.admit.specs.Admission.{admitted}
-use Rattle.calls.specs.Refused.{unless, poisoned_tries, found_healthy, admitted_both, choose, choose_done, choose_refused}
+use Rattle.calls.specs.Refused.{unless, poisoned_tries, found_healthy, choose, choose_done, choose_refused}
 use Rattle.calls.specs.LentWhole.{heads_whole, locked_whole, owner_whole, active_whole}
 
 -- "23 .. for a row lock only: locked by another, no head"
@@ -31,18 +25,6 @@ lock_tries r locked head = tries (lock_tests r locked head)
 lock_tries_law : (r head h : ℕ) (locked l : Bool) → head ≡ h → locked ≡ l → lock_tries r locked head ≡ tries (lock_tests r l h)
 unfolding lock_tries
 lock_tries_law r head h locked l e f = rw (e, f)
-
--- in a store at rest a head is a slot or null
-pub head_placed : (S : Store) (r : ℕ) → Sized S → resting S ≡ true → get_or S.heads r 0 < places
-head_placed S r z rests =
-    let walked = walk_sound S.heads S.next z.next (repairable_parts S (resting_parts S rests).mendable).walked in
-    by (ltb r (length S.heads))
-    (λ lt. first (walked.0 r) (walked.1.stand.chain r (ltb-true r (length S.heads) lt)))
-    (λ ge. rw (get_or-eq_default S.heads 0 {n = r} (ltb-false r (length S.heads) ge)) (lit< tt))
-  where
-    first : (l : List ℕ) → IsChain S.next (get_or S.heads r 0) l → get_or S.heads r 0 < places
-    first [] e = omega arith
-    first (p ∷ l) c = omega (arith, c.0, c.2, z.next)
 
 module _ (S : Store) (x : Tx) (r : ℕ) where
   abbrev head_at : ℕ
@@ -89,11 +71,6 @@ module _ (S : Store) (x : Tx) (r : ℕ) where
 
     pub lock_refused : is_done why ≡ false → record { refusal = why; store = S; tx = x } ≡ row_lock S x r
     lock_refused d = choose_refused done refused why _ why_is d ∙ answer
-
-    pub lock_placed : is_done why ≡ true → head < places
-    lock_placed d =
-        let ok = admitted_both S x _ (sym (ap is_done why_is) ∙ d) in
-        rw head_is (head_placed S r z ok.0)
 
     pub lock_done : {T : Store} → is_done why ≡ true → T ≡ apply_all (put_lock head x.txid.0 ∷ []) S
         → record { refusal = why; store = T; tx = x } ≡ row_lock S x r

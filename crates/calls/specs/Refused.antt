@@ -1,6 +1,9 @@
 -- Refusals in their order, one row of tests after another, and the answers that depend on them.
-use Rattle.std.specs.Prelude.{◌≡◌, refl, Bool, true, false, not, cond, List, [], ◌∷◌}
-use Rattle.std.proofs.Common.{sym, ap, ◌∙◌}
+use Rattle.std.specs.Prelude.{◌≡◌, refl, Bool, true, false, not, cond, List, [], ◌∷◌, Result, Ok, Err}
+use Rattle.std.proofs.Common.{sym, ap, ◌∙◌, arith, take_all, ℕ, ◌≤◌, length, take}
+use Rattle.rules.specs.Puts.{Put, apply_all}
+use Rattle.journal.specs.Journal.{put_limit}
+use Rattle.journal.specs.Adds.{Adds, adds_all}
 use Rattle.rules.specs.Lists.{memb}
 use Rattle.basic_laws.specs.Cases.{by, clash}
 use Rattle.rules.specs.Types.{Store, Tx, Open, Closed, Refusal, Done, NotResting, Unfit, NotActive, FoundPoisoned}
@@ -9,7 +12,7 @@ use Rattle.rules.specs.Admitted.{resting}
 use Rattle.rules.specs.Fit.{fit}
 use Rattle.rules.specs.Numbers.{Try, refuse, tries, is_done}
 use Rattle.rules.specs.Calls.{admits, admits_healthy}
-use Rattle.admit.specs.Admission.{admitted, admitted_call}
+use Rattle.admit.specs.Admission.{as_result, refused_is, done_is, admitted, admitted_call}
 
 -- what was refused before, else what comes next
 unfoldable pub unless : Refusal → Refusal → Refusal
@@ -26,6 +29,28 @@ unless_more first more q e f = rw e f
 -- number 9
 unfoldable pub poisoned_tries : Bool → Refusal
 poisoned_tries poisoned = tries (refuse poisoned (FoundPoisoned Open) ∷ [])
+
+-- numbers 1, 2, 3 and 9
+abbrev pub first_tries : Store → Tx → Refusal
+first_tries S x = unless (admitted S x true) (poisoned_tries S.poisoned)
+
+-- as results: an error before stays, and without one the rest decides
+pub unless_err : (first more : Refusal) {v : Refusal} → Err v ≡ as_result first → Err v ≡ as_result (unless first more)
+unless_err first more {v} e =
+    let r = refused_is v first e in
+    let kept : first ≡ unless first more = unless_kept first more (sym (ap is_done r.0) ∙ r.1) in
+    e ∙ ap as_result kept
+
+pub unless_ok : (u : Unit {0}) (first more : Refusal) {r : Result (Unit {0}) Refusal} → Ok u ≡ as_result first → r ≡ as_result more → r ≡ as_result (unless first more)
+unless_ok u first more e f = f ∙ ap as_result (unless_more first more more (done_is u first e) refl)
+
+-- a planned row of puts, all of it applied
+pub applied : (S : Store) {T : Store} {j₀ j ps : List Put} {n : ℕ} → j₀ ≡ [] → Adds j₀ ps j → length ps ≤ put_limit → n ≡ length j → T ≡ apply_all (take n j) S
+    → T ≡ apply_all ps S
+applied S {T} {j₀} {j} {ps} {n} o a l m t =
+    let first : Adds [] ps j = rw o at a in
+    let all : j ≡ ps = adds_all first l in
+    t ∙ ap (λ (qs : List Put). apply_all qs S) (take_all n j (omega (arith, m)) ∙ all)
 
 -- a refusal stays one, and nothing refused before leaves the rest
 four : (a b c d : Bool) (more : Refusal) →

@@ -1,11 +1,9 @@
 -- Write: why it refuses, and its answer.
-use Rattle.std.specs.Prelude.{◌≡◌, Bool, true, false, List, [], ◌∷◌, ◌++◌, ℕ, suc, ◌+◌, ◌<◌, ◌≤◌, length, drop, eqb, leb}
+use Rattle.std.specs.Prelude.{◌≡◌, Bool, true, false, List, [], ◌∷◌, ◌++◌, ℕ, ◌≤◌, length, eqb, leb}
 use Rattle.std.proofs.Math.Path.{refl}
-use Rattle.std.proofs.Common.{sym, ap, ◌∙◌, arith, length-drop}
-use Rattle.records.specs.Limits.{rows, places, write_limit}
+use Rattle.std.proofs.Common.{sym, ap, ◌∙◌, arith}
+use Rattle.records.specs.Limits.{rows, write_limit}
 use Rattle.records.specs.Relations.{call_puts}
-use Rattle.rules.specs.Lists.{first_zero}
-use Rattle.basic_laws.specs.Cases.{by}
 use Rattle.rules.specs.Types.{Store, Tx, Value, Absent, Key, Written, Refusal, RowTooHigh, WritesFull, ImpossibleMinute, SlotsFull, Open}
 use Rattle.rules.specs.Store.{impossible}
 use Rattle.rules.specs.Transaction.{writes_of, with_writes}
@@ -34,15 +32,6 @@ write_tries r writes beyond full = tries (write_tests r writes beyond full)
 write_tries_law : (r writes : ℕ) {beyond full b c : Bool} → beyond ≡ b → full ≡ c → write_tries r writes beyond full ≡ tries (write_tests r writes b c)
 unfolding write_tries
 write_tries_law r writes e f = rw (e, f)
-
--- the lowest free slot is a slot or null
-zero_within : (p : ℕ) (l : List ℕ) → first_zero p l ≤ p + length l
-zero_within p [] = omega arith
-zero_within p (y ∷ l) = by (eqb y 0) (λ e. rw e (omega arith)) (λ e. rw e (omega (arith, zero_within (suc p) l)))
-
-pub free_placed : (xmin : List ℕ) → lowest_free xmin ≤ suc (length xmin)
-unfolding lowest_free
-free_placed xmin = omega (arith, zero_within 1 (drop 1 xmin), length-drop 1 xmin)
 
 -- two puts or three
 pub takes_few : (p t q : ℕ) (v : Value) → length (take_slot p t q v) ≤ put_limit
@@ -95,9 +84,6 @@ module _ (S : Store) (x : Tx) (r : ℕ) (v : Value) where
 
     pub write_refused : is_done why ≡ false → record { refusal = why; slot = record { 0 = 0 }; store = S; tx = x } ≡ write S x r v
     write_refused d = choose_refused done refused why _ why_is d ∙ answer
-
-    pub write_placed : free < suc (suc places)
-    write_placed = omega (arith, free_is, free_placed S.xmin, z.xmin)
 
     pub write_done : {base : ℕ} {T : Store} {y : Tx} → is_done why ≡ true
         → base ≡ base_of_row (at_rows S.heads) (at_places S.next) (at_places S.xmin) x r

@@ -1,80 +1,75 @@
 // Begin.
 
-ghost use Rattle.std.specs.Prelude.{◌≡◌, ◌<◌, length};
-ghost use Rattle.records.specs.Limits.{clock_end, active_limit};
+ghost use Rattle.std.specs.Prelude.{◌≡◌, ◌<◌};
+ghost use Rattle.records.specs.Limits.{clock_end};
+ghost use Rattle.rules.specs.Admitted.{resting};
 ghost use Rattle.rules.specs.Calls.{begin};
 ghost use Rattle.journal.specs.Adds.{Adds};
 ghost use Rattle.fields.specs.Lent.{at_active};
+ghost use Rattle.admit.specs.Admission.{as_result};
 ghost use Rattle.calls.specs.BeginAnswer.{begin_tries, begin_puts, begun_of};
 
-use admit::admission::is_done;
-use journal::{Journal, Kind};
+use admit::admission::refuse;
+use journal::{Journal, Put};
 use records::{Fate, Refusal, Reply, Store, Tx, Txid};
 use resting::rest::resting;
 use visibility::active::{active_count, oldest_active};
 
 // Numbers 1, 9, 21 and 22.
-fn begin_refusal(rests: bool, poisoned: bool, active: &[u64; Txid::ACTIVE], clock: u64) -> Refusal
-    ensures { result ≡ begin_tries rests poisoned (at_active active.now) clock }
+#[tactic(auto, unfolding(crate::specs::BeginAnswer::begin_tries))]
+fn begin_refusal(s: &Store) -> Result<(), Refusal>
+    ensures { result ≡ as_result (begin_tries (resting s.now) s.now.poisoned (at_active s.now.active) s.now.clock) }
 {
-    if !rests {
-        return Refusal::NotResting(Fate::Open);
-    }
-    if poisoned {
-        return Refusal::FoundPoisoned(Fate::Open);
-    }
-    if Txid::ACTIVE <= active_count(active) {
-        return Refusal::ActiveFull(Fate::Open);
-    }
-    if u64::MAX <= clock {
-        return Refusal::ClockAtEnd(Fate::Open);
-    }
-    Refusal::Done
+    refuse(!resting(*s), Refusal::NotResting(Fate::Open))?;
+    refuse(s.poisoned, Refusal::FoundPoisoned(Fate::Open))?;
+    refuse(
+        Txid::ACTIVE <= active_count(&s.active),
+        Refusal::ActiveFull(Fate::Open),
+    )?;
+    refuse(u64::MAX <= s.clock, Refusal::ClockAtEnd(Fate::Open))
 }
 
 // The transaction that begins: its snapshot is the earlier active list.
-fn begun(active: [u64; Txid::ACTIVE], clock: u64) -> Tx
-    ensures { length active ≡ active_limit → result ≡ begun_of active clock }
+fn begun(s: &Store) -> Tx
+    ensures { result ≡ begun_of s.now.active s.now.clock }
 {
-    let oldest = oldest_active(&active, clock);
-    let count = active_count(&active);
-    let mut x = Tx::zero();
-    x.txid.0 = clock;
-    x.snapshot_xmin.0 = oldest;
-    x.snapshot_xmax.0 = clock;
-    x.snapshot = active;
-    x.snapshot_count = count;
-    x
+    let clock = s.clock;
+    Tx {
+        txid: Txid(clock),
+        snapshot_xmin: Txid(oldest_active(&s.active, clock)),
+        snapshot_xmax: Txid(clock),
+        snapshot: s.active,
+        snapshot_count: active_count(&s.active),
+        ..Tx::zero()
+    }
 }
 
 // The txid enters the active list, and the clock rises.
-fn plan_begin(clock: u64, j: &mut [u64; Journal::WORDS]) -> usize
+fn plan_begin(clock: u64, j: &mut Journal)
     requires { clock < clock_end }
-    ensures { Adds j.old 0 (begin_puts clock) j.new result }
+    ensures { Adds j.old (begin_puts clock) j.new }
 {
-    let n = journal::push(j, 0, Kind::ENTER, 0, clock);
-    journal::push(j, n, Kind::CLOCK, 0, clock + 1)
+    j.push(Put::Enter(Txid(clock)));
+    j.push(Put::Clock(clock + 1));
 }
 
 // Txid and snapshot_xmax are the clock, which then rises.
 pub fn begin(s: Store) -> Reply
     ensures { result ≡ begin s }
 {
-    let rests = resting(s);
-    let why = begin_refusal(rests, s.poisoned, &s.active, s.clock);
-    if !is_done(why) {
+    if let Err(why) = begin_refusal(&s) {
         return Reply {
             refusal: why,
             store: s,
             tx: Tx::zero(),
         };
     }
-    let mut j = [0; Journal::WORDS];
-    let n = plan_begin(s.clock, &mut j);
-    let x = begun(s.active, s.clock);
-    let t = journal::apply(s, &j, n);
+    let mut j = Journal::new();
+    plan_begin(s.clock, &mut j);
+    let x = begun(&s);
+    let t = j.apply(s, j.len());
     Reply {
-        refusal: why,
+        refusal: Refusal::Done,
         store: t,
         tx: x,
     }

@@ -5,11 +5,12 @@ ghost use Rattle.rules.specs.Types.{ReadRecord};
 ghost use Rattle.rules.specs.Calls.{lookup};
 ghost use Rattle.fields.specs.Lent.{at_stripes};
 ghost use Rattle.recording.specs.ReadList.{laid};
-ghost use Rattle.calls.specs.Refused.{unless};
+ghost use Rattle.admit.specs.Admission.{as_result};
+ghost use Rattle.calls.specs.Refused.{unless, first_tries};
 ghost use Rattle.calls.specs.LookupAnswer.{minute_tries, none_found, looked};
 
 use super::refusal::{healthy, impossible};
-use admit::admission::{admitted, is_done};
+use admit::admission::refuse;
 use recording::candidates::candidates;
 use recording::changed::{with_index_reads, with_reads};
 use recording::lookup::{matching, record_marked};
@@ -17,17 +18,15 @@ use recording::reads::ReadList;
 use recording::stamps::{index_conflict, record_stamp, stamp_of};
 use records::{Fate, Found, Refusal, RowId, Store, Tx, Value};
 
-// Number 31, if nothing was refused before.
-fn lookup_refusal(first: Refusal, k: u32) -> Refusal
-    ensures { result ≡ unless first (minute_tries k) }
+// Numbers 1, 2, 3, 9 and 31.
+fn lookup_refusal(s: &Store, x: &Tx, k: u32) -> Result<(), Refusal>
+    ensures { result ≡ as_result (unless (first_tries s.now x.now) (minute_tries k)) }
 {
-    if !is_done(first) {
-        return first;
-    }
-    if impossible(Value::Key(k)) {
-        return Refusal::ImpossibleMinute(Fate::Open);
-    }
-    Refusal::Done
+    healthy(s, x)?;
+    refuse(
+        impossible(Value::Key(k)),
+        Refusal::ImpossibleMinute(Fate::Open),
+    )
 }
 
 // Refused: no row is found, and the transaction is as it was.
@@ -58,10 +57,7 @@ fn looked(stamps: &[u64; Store::STRIPES], x: Tx, l: ReadList, k: u32) -> Tx
 pub fn lookup(s: Store, x: Tx, k: u32) -> Found
     ensures { result ≡ lookup s x k }
 {
-    let tried = admitted(s, x, true);
-    let first = healthy(tried, s.poisoned);
-    let why = lookup_refusal(first, k);
-    if !is_done(why) {
+    if let Err(why) = lookup_refusal(&s, &x, k) {
         return none_found(why, x);
     }
     let marks = candidates(&s.postings, s.posting_count, x, k);

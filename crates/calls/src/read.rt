@@ -2,31 +2,25 @@
 
 ghost use Rattle.std.specs.Prelude.{◌≡◌};
 ghost use Rattle.rules.specs.Calls.{read};
-ghost use Rattle.calls.specs.Refused.{unless};
+ghost use Rattle.admit.specs.Admission.{as_result};
+ghost use Rattle.calls.specs.Refused.{unless, first_tries};
 ghost use Rattle.calls.specs.ReadAnswer.{read_tries};
 
 use super::refusal::healthy;
-use admit::admission::{admitted, is_done};
+use admit::admission::refuse;
 use recording::changed::with_reads;
 use recording::reads::with_read;
 use records::{Fate, Refusal, RowId, Seen, Store, Tx, Value};
 use visibility::found::read_ptr;
 use visibility::slots::value_at;
 
-// Numbers 23 and 24, if nothing was refused before.
-fn read_refusal(first: Refusal, r: RowId, over: bool) -> Refusal
-    ensures { result ≡ unless first (read_tries r.0 over) }
+// Numbers 1, 2, 3, 9, 23 and 24.
+fn read_refusal(s: &Store, x: &Tx, r: RowId, over: bool) -> Result<(), Refusal>
+    ensures { result ≡ as_result (unless (first_tries s.now x.now) (read_tries r.0 over)) }
 {
-    if !is_done(first) {
-        return first;
-    }
-    if RowId::ROWS <= r.0 {
-        return Refusal::RowTooHigh(Fate::Open);
-    }
-    if over {
-        return Refusal::ReadsFull(Fate::Open);
-    }
-    Refusal::Done
+    healthy(s, x)?;
+    refuse(RowId::ROWS <= r.0, Refusal::RowTooHigh(Fate::Open))?;
+    refuse(over, Refusal::ReadsFull(Fate::Open))
 }
 
 // The value of the last own write, else of the first visible version, which is recorded.
@@ -34,10 +28,7 @@ pub fn read(s: Store, x: Tx, r: RowId) -> Seen
     ensures { result ≡ read s x r.0 }
 {
     let l = with_read(&s.heads, &s.next, &s.xmin, x, r);
-    let tried = admitted(s, x, true);
-    let first = healthy(tried, s.poisoned);
-    let why = read_refusal(first, r, l.over);
-    if !is_done(why) {
+    if let Err(why) = read_refusal(&s, &x, r, l.over) {
         return Seen {
             refusal: why,
             value: Value::Absent,
@@ -48,7 +39,7 @@ pub fn read(s: Store, x: Tx, r: RowId) -> Seen
     let v = value_at(&s.key, &s.has, p);
     let y = with_reads(x, l);
     Seen {
-        refusal: why,
+        refusal: Refusal::Done,
         value: v,
         tx: y,
     }

@@ -2,30 +2,23 @@
 
 ghost use Rattle.std.specs.Prelude.{◌≡◌};
 ghost use Rattle.rules.specs.Store.{impossible};
-ghost use Rattle.calls.specs.Refused.{unless, poisoned_tries};
+ghost use Rattle.admit.specs.Admission.{as_result};
+ghost use Rattle.calls.specs.Refused.{first_tries};
 
-use admit::admission::is_done;
-use records::{Fate, Refusal, Value};
+use admit::admission::{admitted, refuse};
+use records::{Fate, Refusal, Store, Tx, Value};
 
-// Number 9, if nothing was refused before.
-pub fn healthy(first: Refusal, poisoned: bool) -> Refusal
-    ensures { result ≡ unless first (poisoned_tries poisoned) }
+// Numbers 1, 2, 3 and 9.
+pub fn healthy(s: &Store, x: &Tx) -> Result<(), Refusal>
+    ensures { result ≡ as_result (first_tries s.now x.now) }
 {
-    if !is_done(first) {
-        return first;
-    }
-    if poisoned {
-        return Refusal::FoundPoisoned(Fate::Open);
-    }
-    Refusal::Done
+    admitted(s, x, true)?;
+    refuse(s.poisoned, Refusal::FoundPoisoned(Fate::Open))
 }
 
 // A key over the last minute of the year.
 pub fn impossible(v: Value) -> bool
     ensures { result ≡ impossible v }
 {
-    match v {
-        Value::Absent => false,
-        Value::Key(k) => Value::LAST_MINUTE < k,
-    }
+    matches!(v, Value::Key(k) if Value::LAST_MINUTE < k)
 }

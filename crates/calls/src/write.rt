@@ -1,59 +1,41 @@
 // Write.
 
-ghost use Rattle.std.specs.Prelude.{◌≡◌, ◌<◌};
+ghost use Rattle.std.specs.Prelude.{◌≡◌, eqb};
+ghost use Rattle.rules.specs.Store.{impossible};
 ghost use Rattle.rules.specs.Puts.{take_slot};
 ghost use Rattle.rules.specs.Calls.{write};
-ghost use Rattle.journal.specs.Journal.{place_base};
 ghost use Rattle.journal.specs.Adds.{Adds};
-ghost use Rattle.calls.specs.Refused.{unless};
+ghost use Rattle.admit.specs.Admission.{as_result};
+ghost use Rattle.calls.specs.Refused.{unless, first_tries};
 ghost use Rattle.calls.specs.WriteAnswer.{write_tries};
 
 use super::refusal::{healthy, impossible};
-use admit::admission::{admitted, is_done};
-use journal::{Journal, Kind};
+use admit::admission::refuse;
+use journal::{Journal, Put};
 use recording::changed::with_write;
 use records::{Fate, Refusal, RowId, SlotPtr, Store, Tx, Txid, Value, Write, Written};
 use visibility::found::base_of;
 use visibility::slots::lowest_free;
 
-// Numbers 23, 25, 31 and 26, if nothing was refused before.
-fn write_refusal(first: Refusal, r: RowId, writes: usize, beyond: bool, full: bool) -> Refusal
-    ensures { result ≡ unless first (write_tries r.0 writes beyond full) }
+// Numbers 1, 2, 3, 9, 23, 25, 31 and 26.
+fn write_refusal(s: &Store, x: &Tx, r: RowId, v: Value, free: SlotPtr) -> Result<(), Refusal>
+    ensures { result ≡ as_result (unless (first_tries s.now x.now) (write_tries r.0 x.now.write_count (impossible v) (eqb free.0 0))) }
 {
-    if !is_done(first) {
-        return first;
-    }
-    if RowId::ROWS <= r.0 {
-        return Refusal::RowTooHigh(Fate::Open);
-    }
-    if Tx::WRITES <= writes {
-        return Refusal::WritesFull(Fate::Open);
-    }
-    if beyond {
-        return Refusal::ImpossibleMinute(Fate::Open);
-    }
-    if full {
-        return Refusal::SlotsFull(Fate::Open);
-    }
-    Refusal::Done
+    healthy(s, x)?;
+    refuse(RowId::ROWS <= r.0, Refusal::RowTooHigh(Fate::Open))?;
+    refuse(Tx::WRITES <= x.write_count, Refusal::WritesFull(Fate::Open))?;
+    refuse(impossible(v), Refusal::ImpossibleMinute(Fate::Open))?;
+    refuse(free == SlotPtr::NULL, Refusal::SlotsFull(Fate::Open))
 }
 
 // The slot taken for a version of t over its base.
-fn plan_write(
-    slot: SlotPtr,
-    t: Txid,
-    base: SlotPtr,
-    v: Value,
-    j: &mut [u64; Journal::WORDS],
-) -> usize
-    ensures { slot.0 < place_base → Adds j.old 0 (take_slot slot.0 t.0 base.0 v) j.new result }
+fn plan_write(slot: SlotPtr, t: Txid, base: SlotPtr, v: Value, j: &mut Journal)
+    ensures { Adds j.old (take_slot slot.0 t.0 base.0 v) j.new }
 {
-    let at = slot.0 as usize;
-    let n = journal::push(j, 0, Kind::XMIN, at, t.0);
-    let m = journal::push(j, n, Kind::NEXT, at, base.0 as u64);
-    match v {
-        Value::Absent => m,
-        Value::Key(k) => journal::push(j, m, Kind::KEY, at, k as u64),
+    j.push(Put::Xmin(slot, t));
+    j.push(Put::Next(slot, base));
+    if let Value::Key(k) = v {
+        j.push(Put::Key(slot, k));
     }
 }
 
@@ -62,12 +44,7 @@ pub fn write(s: Store, x: Tx, r: RowId, v: Value) -> Written
     ensures { result ≡ write s x r.0 v }
 {
     let free = lowest_free(&s.xmin);
-    let tried = admitted(s, x, true);
-    let first = healthy(tried, s.poisoned);
-    let beyond = impossible(v);
-    let full = free.0 == 0;
-    let why = write_refusal(first, r, x.write_count, beyond, full);
-    if !is_done(why) {
+    if let Err(why) = write_refusal(&s, &x, r, v, free) {
         return Written {
             refusal: why,
             slot: SlotPtr::NULL,
@@ -76,8 +53,8 @@ pub fn write(s: Store, x: Tx, r: RowId, v: Value) -> Written
         };
     }
     let base = base_of(&s.heads, &s.next, &s.xmin, x, r);
-    let mut j = [0; Journal::WORDS];
-    let n = plan_write(free, x.txid, base, v, &mut j);
+    let mut j = Journal::new();
+    plan_write(free, x.txid, base, v, &mut j);
     let y = with_write(
         x,
         Write {
@@ -86,9 +63,9 @@ pub fn write(s: Store, x: Tx, r: RowId, v: Value) -> Written
             new: free,
         },
     );
-    let t = journal::apply(s, &j, n);
+    let t = j.apply(s, j.len());
     Written {
-        refusal: why,
+        refusal: Refusal::Done,
         slot: free,
         store: t,
         tx: y,

@@ -1,13 +1,8 @@
 -- `plan_begin` meets its contract.
-use mathlib.Core.Path.{refl}
-use native.Mathlib.Numerals.{add-one}
-use lib.Dec.{lit≤, lit<}
-use Rattle.journal.specs.Holds.{kept_wide}
-use Rattle.journal.specs.Adds.{adds_push, adds_then}
+use Rattle.std.proofs.Common.{arith}
+use Rattle.std.proofs.Common.{◌≡◌, ◌+◌, suc}
+use Rattle.journal.specs.Adds.{adds_then}
 use Rattle.calls.proofs.begin.plan_begin.Goals as goal
 
 pub returns : goal.returns
-returns c =
-    rw (← (add-one c.args.clock))
-    (adds_then (adds_push (kept_wide _ (lit≤ tt) (lit< tt) refl) c.push-n.ensures)
-    (adds_push (kept_wide _ (lit≤ tt) (lit< tt) refl) c.push.ensures))
+returns c = let n : c.args.clock + 1 ≡ suc c.args.clock = omega arith in rw n at (adds_then c.push.ensures c.push-2.ensures)

@@ -1,35 +1,20 @@
--- `lock_refusal` meets its contract.
-use mathlib.Core.Path.{sym, ◌∙◌}
-use borrow.Author.Tests.{le-leb, lt-leb, eq-eqb, ne_eqb}
-use Rattle.calls.specs.Refused.{unless_kept, unless_more}
-use Rattle.records.specs.Limits.{rows}
+-- `lock_refusal` meets its contract: refused before, or by its own tests in their order.
+use Rattle.std.proofs.Common.{rules}
+use Rattle.calls.specs.Refused.{unless_err, unless_ok, first_tries}
 use Rattle.calls.specs.LockAnswer.{lock_tries}
 use Rattle.calls.proofs.lock.lock_refusal.Goals as goal
 
-pub returns-then-not-is_done : goal.returns-then-not-is_done
-returns-then-not-is_done c = unless_kept _ _ (sym c.is_done.ensures ∙ c.if-not-is_done.true)
+pub returns-in_err-healthy : goal.returns-in_err-healthy
+returns-in_err-healthy c = let kept = unless_err (first_tries c.args.s.now c.args.x.now) (lock_tries c.args.r.0 c.args.locked c.args.head.0) c.in_err-healthy.ensures in search rules
 
-pub returns-then-r-ge-ROWS : goal.returns-then-r-ge-ROWS
+pub returns-in_err-refuse : goal.returns-in_err-refuse
 unfolding lock_tries
-returns-then-r-ge-ROWS c =
-    unless_more _ _ _ (sym c.is_done.ensures ∙ c.if-not-is_done.false) (rw (le-leb rows _ c.if-r-ge-ROWS.true))
+returns-in_err-refuse c = unless_ok _ _ _ c.in_ok-healthy.ensures (search rules)
 
-pub returns-then-locked : goal.returns-then-locked
+pub returns-in_err-refuse-2 : goal.returns-in_err-refuse-2
 unfolding lock_tries
-returns-then-locked c =
-    unless_more _ _ _ (sym c.is_done.ensures ∙ c.if-not-is_done.false)
-    (rw (lt-leb rows _ c.if-r-ge-ROWS.false, c.if-locked.true))
-
-pub returns-then-head-eq0 : goal.returns-then-head-eq0
-unfolding lock_tries
-returns-then-head-eq0 c =
-    unless_more _ _ _
-    (sym c.is_done.ensures ∙ c.if-not-is_done.false)
-    (rw (lt-leb rows _ c.if-r-ge-ROWS.false, c.if-locked.false, eq-eqb _ 0 c.if-head-eq0.true))
+returns-in_err-refuse-2 c = unless_ok _ _ _ c.in_ok-healthy.ensures (search rules)
 
 pub returns : goal.returns
 unfolding lock_tries
-returns c =
-    unless_more _ _ _
-    (sym c.is_done.ensures ∙ c.if-not-is_done.false)
-    (rw (lt-leb rows _ c.if-r-ge-ROWS.false, c.if-locked.false, ne_eqb _ 0 c.if-head-eq0.false))
+returns c = unless_ok _ _ _ c.in_ok-healthy.ensures (search rules)

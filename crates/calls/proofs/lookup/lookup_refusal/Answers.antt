@@ -1,20 +1,12 @@
--- `lookup_refusal` meets its contract.
-use mathlib.Core.Path.{sym, ◌∙◌}
-use Rattle.calls.specs.Refused.{unless_kept, unless_more}
+-- `lookup_refusal` meets its contract: refused before, or by its own tests in their order.
+use Rattle.std.proofs.Common.{rules}
+use Rattle.calls.specs.Refused.{unless_err, unless_ok, first_tries}
 use Rattle.calls.specs.LookupAnswer.{minute_tries}
 use Rattle.calls.proofs.lookup.lookup_refusal.Goals as goal
 
-pub returns-then-not-is_done : goal.returns-then-not-is_done
-returns-then-not-is_done c = unless_kept _ _ (sym c.is_done.ensures ∙ c.if-not-is_done.true)
-
-pub returns-then-impossible : goal.returns-then-impossible
-unfolding minute_tries
-returns-then-impossible c =
-    unless_more _ _ _ (sym c.is_done.ensures ∙ c.if-not-is_done.false)
-    (rw (sym c.impossible.ensures ∙ c.if-impossible.true))
+pub returns-in_err-healthy : goal.returns-in_err-healthy
+returns-in_err-healthy c = let kept = unless_err (first_tries c.args.s.now c.args.x.now) (minute_tries c.args.k) c.in_err-healthy.ensures in search rules
 
 pub returns : goal.returns
 unfolding minute_tries
-returns c =
-    unless_more _ _ _ (sym c.is_done.ensures ∙ c.if-not-is_done.false)
-    (rw (sym c.impossible.ensures ∙ c.if-impossible.false))
+returns c = unless_ok _ _ _ c.in_ok-healthy.ensures (search rules)

@@ -1,19 +1,17 @@
 -- `read` meets its contract, as its tests find it.
-use mathlib.Core.Path.{sym, ◌∙◌}
+use Rattle.std.proofs.Common.{refl}
 use Rattle.fields.proofs.Lengths.{sized}
+use Rattle.admit.specs.Admission.{refused_is}
+use Rattle.calls.specs.Passed.{passed}
 use Rattle.calls.specs.ReadAnswer.{read_refused, read_done}
 use Rattle.calls.proofs.read.read.Goals as goal
 
-pub returns-then-not-is_done : goal.returns-then-not-is_done
-returns-then-not-is_done c =
-    read_refused c.args.s c.args.x _ (sized c.args.s c.well_formed.0) c.with_read-l.ensures c.admitted-tried.ensures
-    c.healthy-first.ensures c.read_refusal-why.ensures (sym c.is_done.ensures ∙ c.if-not-is_done.true)
+pub returns-in-Err : goal.returns-in-Err
+returns-in-Err c =
+    let why = refused_is _ _ c.in-Err.ensures in
+    read_refused c.args.s c.args.x _ (sized c.args.s c.well_formed.0) c.with_read-l.ensures refl refl why.0 why.1
 
 pub returns : goal.returns
 returns c =
-    read_done c.args.s c.args.x _ (sized c.args.s c.well_formed.0) c.with_read-l.ensures
-    c.admitted-tried.ensures c.healthy-first.ensures c.read_refusal-why.ensures
-    (sym c.is_done.ensures ∙ c.if-not-is_done.false)
-    c.read_ptr-p.ensures
-    c.value_at-v.ensures
-    c.with_reads-y.ensures
+    read_done c.args.s c.args.x _ (sized c.args.s c.well_formed.0) c.with_read-l.ensures refl refl (passed _ _ c.in_default.ensures) refl
+    c.read_ptr-p.ensures c.value_at-v.ensures c.with_reads-y.ensures

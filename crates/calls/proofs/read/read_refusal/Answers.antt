@@ -1,27 +1,16 @@
--- `read_refusal` meets its contract.
-use mathlib.Core.Path.{sym, ◌∙◌}
-use borrow.Author.Tests.{le-leb, lt-leb}
-use Rattle.calls.specs.Refused.{unless_kept, unless_more}
-use Rattle.records.specs.Limits.{rows}
+-- `read_refusal` meets its contract: refused before, or by its own tests in their order.
+use Rattle.std.proofs.Common.{rules}
+use Rattle.calls.specs.Refused.{unless_err, unless_ok, first_tries}
 use Rattle.calls.specs.ReadAnswer.{read_tries}
 use Rattle.calls.proofs.read.read_refusal.Goals as goal
 
-pub returns-then-not-is_done : goal.returns-then-not-is_done
-returns-then-not-is_done c = unless_kept _ _ (sym c.is_done.ensures ∙ c.if-not-is_done.true)
+pub returns-in_err-healthy : goal.returns-in_err-healthy
+returns-in_err-healthy c = let kept = unless_err (first_tries c.args.s.now c.args.x.now) (read_tries c.args.r.0 c.args.over) c.in_err-healthy.ensures in search rules
 
-pub returns-then-r-ge-ROWS : goal.returns-then-r-ge-ROWS
+pub returns-in_err-refuse : goal.returns-in_err-refuse
 unfolding read_tries
-returns-then-r-ge-ROWS c =
-    unless_more _ _ _ (sym c.is_done.ensures ∙ c.if-not-is_done.false) (rw (le-leb rows _ c.if-r-ge-ROWS.true))
-
-pub returns-then-over : goal.returns-then-over
-unfolding read_tries
-returns-then-over c =
-    unless_more _ _ _ (sym c.is_done.ensures ∙ c.if-not-is_done.false)
-    (rw (lt-leb rows _ c.if-r-ge-ROWS.false, c.if-over.true))
+returns-in_err-refuse c = unless_ok _ _ _ c.in_ok-healthy.ensures (search rules)
 
 pub returns : goal.returns
 unfolding read_tries
-returns c =
-    unless_more _ _ _ (sym c.is_done.ensures ∙ c.if-not-is_done.false)
-    (rw (lt-leb rows _ c.if-r-ge-ROWS.false, c.if-over.false))
+returns c = unless_ok _ _ _ c.in_ok-healthy.ensures (search rules)

@@ -1,15 +1,12 @@
--- `healthy` meets its contract.
-use mathlib.Core.Path.{sym, ◌∙◌}
-use Rattle.calls.specs.Refused.{unless_kept, unless_more, poisoned_tries}
+-- `healthy` meets its contract: refused before, or by its own tests in their order.
+use Rattle.std.proofs.Common.{rules, true}
+use Rattle.admit.specs.Admission.{admitted}
+use Rattle.calls.specs.Refused.{unless_err, unless_ok, poisoned_tries}
 use Rattle.calls.proofs.refusal.healthy.Goals as goal
 
-pub returns-then-not-is_done : goal.returns-then-not-is_done
-returns-then-not-is_done c = unless_kept _ _ (sym c.is_done.ensures ∙ c.if-not-is_done.true)
-
-pub returns-then-poisoned : goal.returns-then-poisoned
-unfolding poisoned_tries
-returns-then-poisoned c = unless_more _ _ _ (sym c.is_done.ensures ∙ c.if-not-is_done.false) (rw c.if-poisoned.true)
+pub returns-in_err-admitted : goal.returns-in_err-admitted
+returns-in_err-admitted c = let kept = unless_err (admitted c.args.s.now c.args.x.now true) (poisoned_tries c.args.s.now.poisoned) c.in_err-admitted.ensures in search rules
 
 pub returns : goal.returns
 unfolding poisoned_tries
-returns c = unless_more _ _ _ (sym c.is_done.ensures ∙ c.if-not-is_done.false) (rw c.if-poisoned.false)
+returns c = unless_ok _ _ _ c.in_ok-admitted.ensures (search rules)

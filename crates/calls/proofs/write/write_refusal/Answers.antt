@@ -1,42 +1,25 @@
--- `write_refusal` meets its contract.
-use mathlib.Core.Path.{sym, ◌∙◌}
-use borrow.Author.Tests.{le-leb, lt-leb}
-use Rattle.calls.specs.Refused.{unless_kept, unless_more}
-use Rattle.records.specs.Limits.{rows, write_limit}
+-- `write_refusal` meets its contract: refused before, or by its own tests in their order.
+use Rattle.std.proofs.Common.{rules, eqb}
+use Rattle.rules.specs.Store.{impossible}
+use Rattle.calls.specs.Refused.{unless_err, unless_ok, first_tries}
 use Rattle.calls.specs.WriteAnswer.{write_tries}
 use Rattle.calls.proofs.write.write_refusal.Goals as goal
 
-pub returns-then-not-is_done : goal.returns-then-not-is_done
-returns-then-not-is_done c = unless_kept _ _ (sym c.is_done.ensures ∙ c.if-not-is_done.true)
+pub returns-in_err-healthy : goal.returns-in_err-healthy
+returns-in_err-healthy c = let kept = unless_err (first_tries c.args.s.now c.args.x.now) (write_tries c.args.r.0 c.args.x.now.write_count (impossible c.args.v) (eqb c.args.free.0 0)) c.in_err-healthy.ensures in search rules
 
-pub returns-then-r-ge-ROWS : goal.returns-then-r-ge-ROWS
+pub returns-in_err-refuse : goal.returns-in_err-refuse
 unfolding write_tries
-returns-then-r-ge-ROWS c =
-    unless_more _ _ _ (sym c.is_done.ensures ∙ c.if-not-is_done.false) (rw (le-leb rows _ c.if-r-ge-ROWS.true))
+returns-in_err-refuse c = unless_ok _ _ _ c.in_ok-healthy.ensures (search rules)
 
-pub returns-then-writes-ge-WRITES : goal.returns-then-writes-ge-WRITES
+pub returns-in_err-refuse-2 : goal.returns-in_err-refuse-2
 unfolding write_tries
-returns-then-writes-ge-WRITES c =
-    unless_more _ _ _ (sym c.is_done.ensures ∙ c.if-not-is_done.false)
-    (rw (lt-leb rows _ c.if-r-ge-ROWS.false, le-leb write_limit _ c.if-writes-ge-WRITES.true))
+returns-in_err-refuse-2 c = unless_ok _ _ _ c.in_ok-healthy.ensures (search rules)
 
-pub returns-then-beyond : goal.returns-then-beyond
+pub returns-in_err-refuse-3 : goal.returns-in_err-refuse-3
 unfolding write_tries
-returns-then-beyond c =
-    unless_more _ _ _
-    (sym c.is_done.ensures ∙ c.if-not-is_done.false)
-    (rw (lt-leb rows _ c.if-r-ge-ROWS.false, lt-leb write_limit _ c.if-writes-ge-WRITES.false, c.if-beyond.true))
-
-pub returns-then-full : goal.returns-then-full
-unfolding write_tries
-returns-then-full c =
-    unless_more _ _ _
-    (sym c.is_done.ensures ∙ c.if-not-is_done.false)
-    (rw (lt-leb rows _ c.if-r-ge-ROWS.false, lt-leb write_limit _ c.if-writes-ge-WRITES.false, c.if-beyond.false, c.if-full.true))
+returns-in_err-refuse-3 c = unless_ok _ _ _ c.in_ok-healthy.ensures (search rules)
 
 pub returns : goal.returns
 unfolding write_tries
-returns c =
-    unless_more _ _ _
-    (sym c.is_done.ensures ∙ c.if-not-is_done.false)
-    (rw (lt-leb rows _ c.if-r-ge-ROWS.false, lt-leb write_limit _ c.if-writes-ge-WRITES.false, c.if-beyond.false, c.if-full.false))
+returns c = unless_ok _ _ _ c.in_ok-healthy.ensures (search rules)
