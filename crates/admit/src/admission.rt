@@ -47,7 +47,7 @@ pub fn admitted_marked(
     ensures answer { result ≡ as_result (admitted s.now x.now planned) }
     ensures marks { seen.new ≡ (walk (at_rows s.now.heads) (at_places s.now.next)).seen }
 {
-    let rests = resting_marked(*s, seen);
+    let rests = resting_marked(s, seen);
     let fits = fit_of(s, seen, x);
     let active = is_active(&s.active, x.txid);
     tried(rests, fits, planned, active)
