@@ -1,9 +1,10 @@
 -- Lookup: why it refuses, and its answer.
-use Rattle.std.specs.Prelude.{◌≡◌, Bool, true, false, List, [], ◌∷◌, map, ℕ, length, get_or, replicate, ltb}
+use Rattle.std.specs.Prelude.{◌≡◌, Bool, true, false, List, [], ◌∷◌, map, ℕ, length, get_or, replicate, ltb, Option, Some, None, is_none}
 use Rattle.std.proofs.Math.Path.{refl, ap}
 use Rattle.std.proofs.Common.{sym, ◌∙◌}
-use Rattle.std.proofs.lemmas.List.{length-replicate}
+use Rattle.std.proofs.lemmas.List.{length-map, length-replicate}
 use Rattle.records.specs.Limits.{rows, read_limit}
+use Rattle.records.specs.Zero.{no_read}
 use Rattle.basic_laws.specs.Cases.{by}
 use Rattle.rules.specs.Lists.{pad}
 use Rattle.rules.specs.Types.{Store, Tx, Found, ReadRecord, Key, Refusal, Done, ReadsFull, ImpossibleMinute, Open}
@@ -19,13 +20,11 @@ use Rattle.fields.specs.Lent.{at_rows, at_places, flags_at_places, flags_at_rows
 use Rattle.fields.specs.Marks.{mark_length}
 use Rattle.recording.specs.MarkedRows.{marked_rows, no_rows}
 use Rattle.recording.specs.CandidateTurns.{candidate_marks, candidate_rows, candidates_marked, fit_rows}
-use Rattle.recording.specs.ReadList.{laid, reads_from, reads_from_law}
+use Rattle.recording.specs.Laid.{laid, within_none}
+use Rattle.recording.specs.ReadList.{ReadList, reads_within, reads_from, reads_from_law}
 use Rattle.recording.specs.LookupTurns.{record_reads_of, record_reads_law, matching_of, matching_of_law}
-use Rattle.recording.specs.FoundRows.{row_list}
-use Rattle.recording.specs.StampList.{index_read_list, index_conflict, index_reads_from, index_reads_from_law}
-use Rattle.recording.specs.declared.reads.ReadList.{ReadList}
-use Rattle.recording.specs.declared.stamps.IndexReadList.{IndexReadList}
-use Rattle.recording.specs.declared.lookup.RowList.{RowList}
+use Rattle.recording.specs.FoundRows.{RowList, row_list}
+use Rattle.recording.specs.StampList.{IndexReadList, index_read_list, index_conflict, index_reads_from, index_reads_from_law}
 use Rattle.admit.specs.Admission.{admitted, admitted_call}
 use Rattle.calls.specs.Refused.{unless, poisoned_tries, unless_kept, unless_more, found_healthy}
 use Rattle.calls.specs.Refused.{both_done, admitted_both, choose, choose_done, choose_refused}
@@ -63,10 +62,10 @@ pub looked_is : {t : ℕ} {b : Bool} {q : IndexReadList} {l : ReadList} {w y : T
     → b ≡ index_conflict x t
     → w ≡ reads_from l x
     → y ≡ index_reads_from q b w
-    → (m : List ReadRecord) → l ≡ laid m → l.over ≡ false → y ≡ looked stamps x m k
+    → (m : List ReadRecord) → Some l ≡ reads_within m → y ≡ looked stamps x m k
 unfolding looked
-looked_is {t} {b} {q} {l} {w} {y} stamps x k e f g r i m h over =
-    i ∙ index_reads_from_law q (record_stamp (stripe_of k) t (index_reads_of x)) b w f ∙ rw (g, r ∙ reads_from_law l m x h over, e)
+looked_is {t} {b} {q} {l} {w} {y} stamps x k e f g r i m h =
+    i ∙ index_reads_from_law q (record_stamp (stripe_of k) t (index_reads_of x)) b w f ∙ rw (g, r ∙ reads_from_law l m x h, e)
 
 -- the marked rows of a fit transaction are the candidates
 marks_long : (postings : List ℕ) (count : ℕ) (x : Tx) (k : ℕ) → length (candidate_marks postings count x k) ≡ rows
@@ -84,8 +83,8 @@ rows_marked S x k marks z rests ok e =
 
 -- a row list is its rows and their number
 row_list_law : (q : RowList) (l : List ℕ) → q ≡ row_list l → (q.at ≡ pad rows (as_row 0) (map as_row l)) × (q.count ≡ length l)
-unfolding row_list
-row_list_law q l e = (ap (λ (p : RowList). p.at) e, ap (λ (p : RowList). p.count) e)
+unfolding row_list laid
+row_list_law q l e = (ap (λ (p : RowList). p.at) e, ap (λ (p : RowList). p.count) e ∙ length-map l as_row)
 
 module _ (S : Store) (x : Tx) (k : ℕ) where
   abbrev reads_after : List ReadRecord
@@ -116,9 +115,10 @@ module _ (S : Store) (x : Tx) (k : ℕ) where
     lookup_refused d = choose_refused done (none_found x) early _ (unless_kept early _ d ∙ why_is) d ∙ answer
 
     -- nothing is refused so far: the store rests and the transaction is fit, so the marks and the list are the definition's
-    module _ (d : is_done early ≡ true) {marks : List Bool} {l : ReadList}
+    module _ (d : is_done early ≡ true) {marks : List Bool} {o : Option ReadList}
         (c : marks ≡ candidate_marks (at_postings S.postings) S.posting_count x k)
-        (h : l ≡ laid (record_reads_of (at_rows S.heads) (at_places S.next) (at_places S.xmin) x (marked_rows (flags_at_rows marks)) (reads_of x))) where
+        (h : o ≡ reads_within (record_reads_of (at_rows S.heads) (at_places S.next) (at_places S.xmin) x (marked_rows (flags_at_rows marks))
+        (reads_of x))) where
       both : (resting S ≡ true) × (fit S x ≡ true)
       both =
           let b = both_done first tried (poisoned_tries S.poisoned) e (both_done early first (minute_tries k) f d).0 in
@@ -127,32 +127,31 @@ module _ (S : Store) (x : Tx) (k : ℕ) where
       marked : marked_rows (flags_at_rows marks) ≡ candidates S x k
       marked = rows_marked S x k marks z both.0 both.1 c
 
-      list_is : l ≡ laid reads_after
+      list_is : o ≡ reads_within reads_after
       list_is =
           (rw (heads_whole S z, next_whole S z, xmin_whole S z, marked) at h)
-          ∙ ap laid (sym (record_reads_law S x (candidates S x k) (reads_of x)))
+          ∙ ap reads_within (sym (record_reads_law S x (candidates S x k) (reads_of x)))
 
-      over_is : l.over ≡ ltb read_limit (length reads_after)
-      unfolding laid
-      over_is = ap (λ (q : ReadList). q.over) list_is
+      over_is : is_none o ≡ ltb read_limit (length reads_after)
+      over_is = rw list_is (within_none read_limit no_read reads_after)
 
-      then : {why : Refusal} → why ≡ tries (refuse l.over (ReadsFull Open) ∷ []) → why ≡ lookup_why
+      then : {why : Refusal} → why ≡ tries (refuse (is_none o) (ReadsFull Open) ∷ []) → why ≡ lookup_why
       then q = unless_more early _ _ d (rw over_is at q) ∙ why_is
 
-      pub lookup_full : l.over ≡ true → none_found x (ReadsFull Open) ≡ lookup S x k
-      lookup_full o = choose_refused done (none_found x) (ReadsFull Open) _ (then (rw o)) refl ∙ answer
+      pub lookup_full : o ≡ None → none_found x (ReadsFull Open) ≡ lookup S x k
+      lookup_full none = choose_refused done (none_found x) (ReadsFull Open) _ (then (rw none)) refl ∙ answer
 
-      pub lookup_done : {q : RowList} {y : Tx} → l.over ≡ false
+      pub lookup_done : {l : ReadList} {q : RowList} {y : Tx} → o ≡ Some l
           → q ≡ row_list (matching_of (at_rows S.heads) (at_places S.next) (at_places S.xmin) (at_places S.key) (flags_at_places S.has) x k
           (marked_rows (flags_at_rows marks)))
-          → ((m : List ReadRecord) → l ≡ laid m → l.over ≡ false → y ≡ looked (at_stripes S.stamps) x m k)
+          → ((m : List ReadRecord) → Some l ≡ reads_within m → y ≡ looked (at_stripes S.stamps) x m k)
           → record { refusal = Done; rows = q.at; count = q.count; tx = y } ≡ lookup S x k
-      lookup_done {q} {y} o u w =
+      lookup_done {l} {q} {y} some u w =
           let found : q ≡ row_list (matching S x k) =
           (rw (heads_whole S z, next_whole S z, xmin_whole S z, key_whole S z, has_whole S z, marked) at u)
           ∙ ap row_list (sym (matching_of_law S x k)) in
           let parts = row_list_law q (matching S x k) found in
-          let tx_is : y ≡ looked S.stamps x reads_after k = rw (stamps_whole S z) at (w reads_after list_is o) in
+          let tx_is : y ≡ looked S.stamps x reads_after k = rw (stamps_whole S z) at (w reads_after (sym some ∙ list_is)) in
           (λ i. record { refusal = Done; rows = parts.0 i; count = parts.1 i; tx = tx_is i })
-          ∙ choose_done done (none_found x) Done _ (then (rw o)) refl
+          ∙ choose_done done (none_found x) Done _ (then (rw some)) refl
           ∙ answer

@@ -1,10 +1,10 @@
 // Lookup.
 
-ghost use Rattle.std.specs.Prelude.{◌≡◌, false, List};
+ghost use Rattle.std.specs.Prelude.{◌≡◌, List, Some};
 ghost use Rattle.rules.specs.Types.{ReadRecord};
 ghost use Rattle.rules.specs.Calls.{lookup};
 ghost use Rattle.fields.specs.Lent.{at_stripes};
-ghost use Rattle.recording.specs.ReadList.{laid};
+ghost use Rattle.recording.specs.ReadList.{reads_within};
 ghost use Rattle.admit.specs.Admission.{as_result};
 ghost use Rattle.calls.specs.Refused.{unless, first_tries};
 ghost use Rattle.calls.specs.LookupAnswer.{minute_tries, none_found, looked};
@@ -42,14 +42,14 @@ fn none_found(why: Refusal, x: Tx) -> Found
 }
 
 // The transaction with its reads those of the list, and the stamp of the key's stripe recorded.
-fn looked(stamps: &[u64; Store::STRIPES], x: Tx, l: ReadList, k: u32) -> Tx
-    ensures { (m : List ReadRecord) → l ≡ laid m → l.over ≡ false → result ≡ looked (at_stripes stamps.now) x m k }
+fn looked(s: &Store, x: &Tx, l: ReadList, k: u32) -> Tx
+    ensures { (m : List ReadRecord) → Some l ≡ reads_within m → result ≡ looked (at_stripes s.now.stamps) x.now m k }
 {
-    let t = stamp_of(stamps, k);
+    let t = stamp_of(s, k);
     let q = record_stamp(x, k % (Store::STRIPES as u32), t);
     let conflict = index_conflict(x, t);
     let y = with_reads(x, l);
-    with_index_reads(y, q, conflict)
+    with_index_reads(&y, q, conflict)
 }
 
 // The rows whose read value is the key, rising; every candidate is recorded as by a read. The postings are searched once the store is known to rest,
@@ -60,13 +60,12 @@ pub fn lookup(s: Store, x: Tx, k: u32) -> Found
     if let Err(why) = lookup_refusal(&s, &x, k) {
         return none_found(why, x);
     }
-    let marks = candidates(&s.postings, s.posting_count, x, k);
-    let l = record_marked(&s.heads, &s.next, &s.xmin, &marks, x);
-    if l.over {
+    let marks = candidates(&s, &x, k);
+    let Some(l) = record_marked(&s, &marks, &x) else {
         return none_found(Refusal::ReadsFull(Fate::Open), x);
-    }
-    let found = matching(&s.heads, &s.next, &s.xmin, &s.key, &s.has, &marks, x, k);
-    let y = looked(&s.stamps, x, l, k);
+    };
+    let found = matching(&s, &marks, &x, k);
+    let y = looked(&s, &x, l, k);
     let rows = found.at;
     Found {
         refusal: Refusal::Done,

@@ -27,17 +27,20 @@ fn read_refusal(s: &Store, x: &Tx, r: RowId, over: bool) -> Result<(), Refusal>
 pub fn read(s: Store, x: Tx, r: RowId) -> Seen
     ensures { result ≡ read s x r.0 }
 {
-    let l = with_read(&s.heads, &s.next, &s.xmin, x, r);
-    if let Err(why) = read_refusal(&s, &x, r, l.over) {
+    let reads = with_read(&s, &x, r);
+    if let Err(why) = read_refusal(&s, &x, r, reads.is_none()) {
         return Seen {
             refusal: why,
             value: Value::Absent,
             tx: x,
         };
     }
-    let p = read_ptr(&s.heads, &s.next, &s.xmin, x, r);
-    let v = value_at(&s.key, &s.has, p);
-    let y = with_reads(x, l);
+    let Some(l) = reads else {
+        // 24 was tried
+        unreachable!()
+    };
+    let v = value_at(&s, read_ptr(&s, &x, r));
+    let y = with_reads(&x, l);
     Seen {
         refusal: Refusal::Done,
         value: v,

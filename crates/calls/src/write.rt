@@ -52,11 +52,11 @@ pub fn write(s: Store, x: Tx, r: RowId, v: Value) -> Written
             tx: x,
         };
     }
-    let base = base_of(&s.heads, &s.next, &s.xmin, x, r);
+    let base = base_of(&s, &x, r);
     let mut j = Journal::new();
     plan_write(free, x.txid, base, v, &mut j);
     let y = with_write(
-        x,
+        &x,
         Write {
             row: r,
             base,

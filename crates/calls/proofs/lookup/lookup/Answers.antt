@@ -11,13 +11,13 @@ returns-in-Err c =
     let why = refused_is _ _ c.in-Err.ensures in
     c.none_found.ensures ∙ lookup_refused c.args.s c.args.x _ (sized c.args.s c.well_formed.0) refl refl why.0 why.1
 
-pub returns-then-l : goal.returns-then-l
-returns-then-l c =
-    c.none_found-then-l.ensures
+pub returns-in_default : goal.returns-in_default
+returns-in_default c =
+    c.none_found-in_default.ensures
     ∙ lookup_full c.args.s c.args.x _ (sized c.args.s c.well_formed.0) refl refl (passed _ _ c.in_default.ensures) refl
-    c.candidates-marks.ensures c.record_marked-l.ensures c.if-l.true
+    c.candidates-marks.ensures c.record_marked.ensures c.in_default-2.is
 
 pub returns : goal.returns
 returns c =
     lookup_done c.args.s c.args.x _ (sized c.args.s c.well_formed.0) refl refl (passed _ _ c.in_default.ensures) refl
-    c.candidates-marks.ensures c.record_marked-l.ensures c.if-l.false c.matching-found.ensures c.looked-y.ensures
+    c.candidates-marks.ensures c.record_marked.ensures c.in-Some.is c.matching-found.ensures c.looked-y.ensures

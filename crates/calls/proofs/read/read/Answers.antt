@@ -3,15 +3,15 @@ use Rattle.std.proofs.Common.{refl}
 use Rattle.fields.proofs.Lengths.{sized}
 use Rattle.admit.specs.Admission.{refused_is}
 use Rattle.calls.specs.Passed.{passed}
-use Rattle.calls.specs.ReadAnswer.{read_refused, read_done}
+use Rattle.calls.specs.ReadAnswer.{read_refused, read_never, read_done}
 use Rattle.calls.proofs.read.read.Goals as goal
 
 pub returns-in-Err : goal.returns-in-Err
 returns-in-Err c =
     let why = refused_is _ _ c.in-Err.ensures in
-    read_refused c.args.s c.args.x _ (sized c.args.s c.well_formed.0) c.with_read-l.ensures refl refl why.0 why.1
+    read_refused c.args.s c.args.x _ (sized c.args.s c.well_formed.0) _ c.with_read-reads.ensures refl refl c.is_none.ensures why.0 why.1
 
 pub returns : goal.returns
 returns c =
-    read_done c.args.s c.args.x _ (sized c.args.s c.well_formed.0) c.with_read-l.ensures refl refl (passed _ _ c.in_default.ensures) refl
-    c.read_ptr-p.ensures c.value_at-v.ensures c.with_reads-y.ensures
+    read_done c.args.s c.args.x _ (sized c.args.s c.well_formed.0) _ c.with_read-reads.ensures refl refl c.is_none.ensures
+    (passed _ _ c.in_default.ensures) c.in-Some.is refl c.read_ptr.ensures c.value_at-v.ensures c.with_reads-y.ensures
