@@ -1,5 +1,5 @@
 -- The plan of a commit and what strikes it, read off a store and a schedule.
-use Rattle.std.specs.Prelude.{◌≡◌, Bool, true, false, ◌||◌, List, [], ◌∷◌, map, ℕ, ◌≤◌, length, get_or, take}
+use Rattle.std.specs.Prelude.{◌≡◌, Bool, true, false, ◌||◌, List, [], ◌∷◌, map, ℕ, ◌≤◌, length, take}
 use Rattle.std.proofs.Common.{sym, ap, ◌∙◌, arith, length-take, take_all}
 use Rattle.std.proofs.Math.Nat.{min-eq_left}
 use Rattle.records.specs.Limits.{rows, places, stripes, active_limit, write_limit}
@@ -22,9 +22,9 @@ use Rattle.fields.specs.Lent.{array_same, at_rows, at_places, flags_at_places}
 use Rattle.commit_tests.specs.declared.finals.Finals.{Finals}
 use Rattle.commit_tests.specs.declared.faults.Letters.{Letters}
 use Rattle.commit_tests.specs.Conflicts.{Lends}
-use Rattle.commit_tests.specs.Striking.{letters, letter_at, count_at, letters_say, counts_say}
+use Rattle.commit_tests.specs.Striking.{letters, letter_in, count_in, letter_at, count_at, letters_say, counts_say}
 use Rattle.steps.specs.GateTable.{clean_gate}
-use Rattle.steps.specs.Stops.{letter_in, hits, gate_of}
+use Rattle.steps.specs.Stops.{hits, gate_of}
 use Rattle.steps.specs.RunFound.{run_puts}
 use Rattle.commit_tests.specs.FinalTurns.{finals_laid}
 use Rattle.commit.specs.declared.plan.run.Struck.{Struck}
@@ -99,7 +99,7 @@ struck_by letter k poisoned = record {
 }
 
 pub struck_is : (S : Store) (x : Tx) (logged : Bool) (plan : Schedule) {l : Letters} {poisoned : Bool} → l ≡ letters plan → poisoned ≡ S.poisoned
-    → struck_by (letter_in l) (λ n. get_or l.counts n 0) poisoned ≡ struck_of S x logged plan
+    → struck_by (letter_in l) (count_in l) poisoned ≡ struck_of S x logged plan
 unfolding struck_of count strikes letter_at count_at
 struck_is S x logged plan {l} is p = λ i. struck_by (letters_say plan l is i) (counts_say plan l is i) (p i)
 

@@ -1,5 +1,5 @@
 -- The answer of a run, from the journal that holds its stores: cut, or whole.
-use Rattle.std.specs.Prelude.{◌≡◌, Bool, ℕ, ◌<◌, ◌≤◌, min, length, take, ltb, leb}
+use Rattle.std.specs.Prelude.{◌≡◌, Bool, ℕ, ◌<◌, ◌≤◌, min, length, take, ltb, leb, Result, ⊤}
 use Rattle.std.proofs.Math.Path.{refl, sym, ap}
 use Rattle.std.proofs.Common.{◌∙◌, take_all, lt-ltb, le-ltb}
 use mathlib.Core.List.{List}
@@ -12,10 +12,11 @@ use Rattle.rules.specs.Commit.{run_of}
 use Rattle.rules.specs.Answer.{no_events, no_record, uncut, cut_off, answer}
 use Rattle.commit_tests.specs.declared.faults.Letters.{Letters}
 use Rattle.commit_tests.specs.Striking.{letters}
-use Rattle.steps.specs.declared.first.Stop.{Stop}
+use Rattle.steps.specs.declared.stop.Stop.{Stop}
 use Rattle.steps.specs.GateTable.{clean_gate, number_at, passed_at, left_at}
-use Rattle.steps.specs.Stops.{letter_in, gate_of}
-use Rattle.steps.specs.Causes.{cause_at}
+use Rattle.commit_tests.specs.Striking.{letter_in}
+use Rattle.steps.specs.Stops.{gate_of}
+use Rattle.steps.specs.Ended.{stop_place, cause_of, Told}
 use Rattle.steps.specs.RecordAndEvents.{record_if, events_by}
 use Rattle.steps.specs.Ends.{ending_for, tx_for}
 use Rattle.steps.specs.RunFound.{answered}
@@ -30,10 +31,10 @@ unfoldable pub cut_answer : Store → ℕ → Answer
 cut_answer T n = record { refusal = CutOff Closed; «record» = no_record; store = T; tx = zero_tx; events = no_events; stores = n }
 
 -- all n stores made, by the gate and the cause
-unfoldable pub whole_answer : Store → Tx → Bool → Bool → Letters → Stop → ℕ → Answer
+unfoldable pub whole_answer : Store → Tx → Bool → Bool → Letters → Result ⊤ Stop → ℕ → Answer
 whole_answer T x logged bound l s n =
-    let g = s.gate in
-    let a = ending_for (letter_in l) s.cause (number_at g) in
+    let g = stop_place s in
+    let a = ending_for (letter_in l) (cause_of s) (number_at g) in
     record {
       refusal = a.refusal;
       «record» = record_if (leb clean_gate g) x;
@@ -86,13 +87,13 @@ module _ (S : Store) (x : Tx) (logged : Bool) (plan : Schedule) (cut : Cut) {j :
       })
       ∙ cut_is cut stop l
 
-  pub run_whole : {a : Answer} (s : Stop) → s.gate ≡ gate_of S x logged plan → s.cause ≡ cause_at S x s.gate
+  pub run_whole : {a : Answer} (s : Result ⊤ Stop) → stop_place s ≡ gate_of S x logged plan → Told S x s
       → (l : Letters) → l ≡ letters plan → a ≡ whole_answer T x logged S.bound l s n → n ≤ m → a ≡ answer S x logged (run_of S x logged plan) cut
-  unfolding whole_answer
+  unfolding whole_answer Told
   run_whole s at why l is e all_made =
       let p = letter_in l in
-      let g = s.gate in
-      let d = ending_for p s.cause (number_at g) in
+      let g = stop_place s in
+      let d = ending_for p (cause_of s) (number_at g) in
       let all : T ≡ apply_all (run_of S x logged plan).puts S =
       applied ∙ ap (λ (qs : List Put). apply_all qs S) (take_all m (run_of S x logged plan).puts (omega (arith, count))) in
       let made = count in
@@ -105,5 +106,5 @@ module _ (S : Store) (x : Tx) (logged : Bool) (plan : Schedule) (cut : Cut) {j :
         events = events_by logged S.bound (ltb 0 (length (finals x))) (passed_at g) d;
         stores = made i;
       })
-      ∙ sym (answered S x logged plan g at s.cause why l is d refl (tx_for p x (left_at g)) refl)
+      ∙ sym (answered S x logged plan g at (cause_of s) why l is d refl (tx_for p x (left_at g)) refl)
       ∙ whole_is cut stop all_made

@@ -7,26 +7,23 @@ ghost use Rattle.commit.specs.Run.{stop_at, cut_answer, whole_answer};
 
 use commit_tests::faults::Letters;
 use commit_tests::finals::Finals;
-use fields::lent::clipped;
 use records::{Answer, Cut, Fate, Refusal, Store, Tx};
 use steps::answers::{events_of, record_of};
 use steps::ends::{ending_at, tx_left};
-use steps::first::Stop;
 use steps::gate::{Gate, passed_at};
 use steps::none::{no_events, no_record};
+use steps::stop::{Stop, place};
 
 // All unchanged.
 pub fn unchanged(s: Store, x: Tx, why: Refusal) -> Answer
     ensures { result ≡ unchanged s x why }
 {
-    let record = no_record();
-    let events = no_events();
     Answer {
         refusal: why,
-        record: record,
+        record: no_record(),
         store: s,
         tx: x,
-        events: events,
+        events: no_events(),
         stores: 0,
     }
 }
@@ -37,7 +34,7 @@ pub fn stop_at(cut: Cut, n: usize) -> usize
 {
     match cut {
         Cut::Uncut => n,
-        Cut::After(k) => clipped(k as usize, n),
+        Cut::After(k) => n.min(k as usize),
     }
 }
 
@@ -45,46 +42,37 @@ pub fn stop_at(cut: Cut, n: usize) -> usize
 pub fn cut_answer(t: Store, n: usize) -> Answer
     ensures { result ≡ cut_answer t n }
 {
-    let record = no_record();
-    let events = no_events();
-    let none = Tx::zero();
     Answer {
         refusal: Refusal::CutOff(Fate::Closed),
-        record: record,
+        record: no_record(),
         store: t,
-        tx: none,
-        events: events,
+        tx: Tx::zero(),
+        events: no_events(),
         stores: n,
     }
 }
 
-// The answer of a run that ended there, with all its n stores.
+// The answer of a run that ended there, with all its n stores. Eight parameters stay: each is of another step of the run, and they meet here alone.
 pub fn whole_answer(
     t: Store,
-    x: Tx,
-    finals: Finals,
+    x: &Tx,
+    finals: &Finals,
     logged: bool,
     bound: bool,
-    l: Letters,
-    stop: Stop,
+    l: &Letters,
+    stop: Result<(), Stop>,
     n: usize,
 ) -> Answer
-    ensures { finals ≡ finals_laid x → result ≡ whole_answer t x logged bound l stop n }
+    ensures { finals.now ≡ finals_laid x.now → result ≡ whole_answer t x.now logged bound l.now stop n }
 {
-    let g = stop.gate;
-    let cause = stop.cause;
-    let end = ending_at(g, cause, l);
-    let y = tx_left(g, l, x);
-    let record = record_of(Gate::CLEAN <= g, x, finals);
-    let passed = passed_at(g);
-    let events = events_of(logged, bound, 0 < finals.count, passed, end);
-    let why = end.refusal;
+    let end = ending_at(stop, l);
+    let gate = place(stop);
     Answer {
-        refusal: why,
-        record: record,
+        refusal: end.refusal,
+        record: record_of(Gate::CLEAN <= gate, x, finals),
         store: t,
-        tx: y,
-        events: events,
+        tx: tx_left(stop, l, x),
+        events: events_of(logged, bound, 0 < finals.count, passed_at(gate), &end),
         stores: n,
     }
 }

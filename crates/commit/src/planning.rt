@@ -9,26 +9,20 @@ use super::plan::run::Struck;
 use commit_tests::faults::Letters;
 
 // What a schedule says of the stores, by its letters and their k.
-pub fn struck_of(l: Letters, poisoned: bool) -> Struck
-    ensures { (S : Store) (x : Tx) (logged : Bool) (plan : Schedule) → l ≡ letters plan → poisoned ≡ S.poisoned → result ≡ struck_of S x logged plan }
+pub fn struck_of(l: &Letters, poisoned: bool) -> Struck
+    ensures { (S : Store) (x : Tx) (logged : Bool) (plan : Schedule) → l.now ≡ letters plan → poisoned ≡ S.poisoned → result ≡ struck_of S x logged plan }
 {
-    let inserted = l.counts[15];
-    let removed = l.counts[17];
-    let published = l.counts[18];
-    let recycled = l.counts[19];
-    let stamped = l.counts[22];
-    let rolled = l.counts[24];
     Struck {
-        inserted: inserted as usize,
-        removed: removed as usize,
-        published: published as usize,
-        recycled: recycled as usize,
-        stamped: stamped as usize,
-        rolled: rolled as usize,
-        finish: l.at[21] == b'F',
-        abort: l.at[23] == b'F',
-        rollback: l.at[24] == b'F',
-        worse: l.at[16] == b'X' || l.at[16] == b'Q',
+        inserted: l.count(15) as usize,
+        removed: l.count(17) as usize,
+        published: l.count(18) as usize,
+        recycled: l.count(19) as usize,
+        stamped: l.count(22) as usize,
+        rolled: l.count(24) as usize,
+        finish: l.strikes(21, b'F'),
+        abort: l.strikes(23, b'F'),
+        rollback: l.strikes(24, b'F'),
+        worse: l.strikes(16, b'X') || l.strikes(16, b'Q'),
         poisoned,
     }
 }

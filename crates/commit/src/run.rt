@@ -15,6 +15,7 @@ use commit_tests::finals::final_writes;
 use journal::Journal;
 use records::{Answer, Cut, Schedule, SlotPtr, Store, Tx};
 use steps::first::first_gate;
+use steps::stop::place;
 
 // The answer of the steps, by the marks of the admission's walk; a cut only makes fewer of the stores.
 pub fn run(
@@ -28,28 +29,14 @@ pub fn run(
     ensures { seen.now ≡ (walk (at_rows s.heads) (at_places s.next)).seen → fit s x ≡ true
         → result ≡ answer s x logged (run_of s x logged plan) cut }
 {
-    let l = letters_of(plan);
-    let finals = final_writes(x);
+    let l = letters_of(&plan);
+    let finals = final_writes(&x);
     let writes = first(&finals.at, finals.count);
     let p = plan_of(&s, seen, &x, writes);
-    let q = planning::struck_of(l, s.poisoned);
-    let stop = first_gate(
-        l,
-        logged,
-        0 < finals.count,
-        s.bound,
-        s.poisoned,
-        &s.stamps,
-        &s.heads,
-        &s.locked,
-        &s.owner,
-        &s.active,
-        &s.xmin,
-        &s.xmax,
-        x,
-    );
+    let q = planning::struck_of(&l, s.poisoned);
+    let stop = first_gate(&l, logged, 0 < finals.count, &s, &x);
     let mut j = Journal::new();
-    push_run(&p, writes, &q, stop.gate, &mut j);
+    push_run(&p, writes, &q, place(stop), &mut j);
     let n = j.len();
     let m = answers::stop_at(cut, n);
     let bound = s.bound;
@@ -57,5 +44,5 @@ pub fn run(
     if m < n {
         return answers::cut_answer(t, m);
     }
-    answers::whole_answer(t, x, finals, logged, bound, l, stop, n)
+    answers::whole_answer(t, &x, &finals, logged, bound, &l, stop, n)
 }

@@ -1,5 +1,5 @@
 -- The puts of each gate as one row of blocks, most of them empty at most gates: the form in which code pushes them.
-use Rattle.std.specs.Prelude.{◌≡◌, Bool, not, cond, ◌&&◌, ◌||◌, List, [], ◌∷◌, ◌++◌, map, ℕ, zero, suc, ◌+◌, ◌≤◌, ◌<◌, get_or, take, eqb, ltb}
+use Rattle.std.specs.Prelude.{◌≡◌, Bool, true, false, not, cond, ◌&&◌, ◌||◌, List, [], ◌∷◌, ◌++◌, map, ℕ, zero, suc, ◌+◌, ◌≤◌, ◌<◌, get_or, take, eqb, ltb}
 use Rattle.std.proofs.Common.{sym, ap, ◌∙◌, append_assoc, append-nil, not-suc-le-zero, le_of_suc-le-suc, add-zero, zero-add, arith}
 use Rattle.std.proofs.Math.ListN.{get_or-map}
 use Rattle.rules.specs.Types.{Store, Tx, Schedule}
@@ -8,8 +8,10 @@ use Rattle.rules.specs.Changes.{index_guards, partition_guards, release, inserti
 use Rattle.rules.specs.Commit.{count, finish}
 use Rattle.run_laws.specs.Outcome.{aborting, rolling_back, worse, undoing, aborting_late}
 use Rattle.run_laws.specs.Gates.{gates, clean}
+use Rattle.steps.specs.declared.gate.Left.{Left}
+use Rattle.steps.specs.declared.gate.Left.TheVariants.{All, ByAbort, NoAccesses, NoWrites, Emptied}
 use Rattle.steps.specs.GateTable.{partition_guards_failed, unlogged_check_failed, insert_failed, callback_ended, remove_failed, publish_failed, recycle_failed}
-use Rattle.steps.specs.GateTable.{finish_failed, stamp_failed, left_by_abort, clean_gate, row_at, left_at}
+use Rattle.steps.specs.GateTable.{finish_failed, stamp_failed, is_by_abort, clean_gate, row_at, left_at}
 
 -- a block that is stored from a gate on; and one whose first k puts are stored at a gate of its own, and all of it after
 abbrev pub after : ℕ → ℕ → List Put → List Put
@@ -30,7 +32,16 @@ count_at p (suc n) (suc i) d h = count_at (suc p) n i d (le_of_suc-le-suc h) ∙
 
 -- the gates that abort at once, and let go what they hold before; a callback's aborts later
 unfoldable pub aborts_at : ℕ → Bool
-aborts_at g = not (eqb g callback_ended) && eqb (left_at g) left_by_abort
+aborts_at g = not (eqb g callback_ended) && is_by_abort (left_at g)
+
+-- a test that tells what an abort leaves from the rest
+pub by_abort_told : (f : Left → Bool) → f All ≡ false → f ByAbort ≡ true → f NoAccesses ≡ false → f NoWrites ≡ false → f Emptied ≡ false
+    → (l : Left) → f l ≡ is_by_abort l
+by_abort_told f a b n w e All = a
+by_abort_told f a b n w e ByAbort = b
+by_abort_told f a b n w e NoAccesses = n
+by_abort_told f a b n w e NoWrites = w
+by_abort_told f a b n w e Emptied = e
 
 -- a callback's, by its letter; a failed removal's or stamp's; the doom of a failed publication, recycling or finish
 abbrev pub poisons_of : Bool → ℕ → ℕ → List Put

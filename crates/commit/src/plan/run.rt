@@ -21,7 +21,7 @@ use super::moves::Codes;
 use super::{blocks, guards, moves, own};
 use journal::{Journal, Put};
 use records::{RowId, SlotPtr, Store, Tx, Txid, Write};
-use steps::gate::{Gate, left_at};
+use steps::gate::{Gate, Left, left_at};
 use visibility::own_slots::own_marks;
 
 // What a commit stores if nothing ends it, besides its final writes, and what it frees if it aborts.
@@ -256,7 +256,7 @@ fn push_lets(p: &Plan, gate: usize, j: &mut Journal)
 fn aborts_at(gate: usize) -> bool
     ensures { result ≡ aborts_at gate }
 {
-    gate != Gate::CALLBACK_ENDED && left_at(gate) == Gate::BY_ABORT
+    gate != Gate::CALLBACK_ENDED && left_at(gate) == Left::ByAbort
 }
 
 // The abort of the gates up to the tests.

@@ -1,10 +1,16 @@
 -- `struck_of` meets its contract, part by part: the callback poisons too by either letter.
-use Rattle.std.proofs.Common.{eq-eqb, ne_eqb}
+use Rattle.std.proofs.Common.{◌≡◌, rules, true, false, eqb}
+use Rattle.rules.specs.Faults.{X}
+use Rattle.commit_tests.specs.Striking.{letter_in}
 use Rattle.commit.specs.Planning.{struck_is}
 use Rattle.commit.proofs.planning.struck_of.Goals as goal
 
-pub returns-then-l-eq88 : goal.returns-then-l-eq88
-returns-then-l-eq88 c = λ S x logged plan is p. rw (eq-eqb _ _ c.if-l-eq88.true) (rw (eq-eqb _ _ c.if-l-eq88.true) at (struck_is S x logged plan is p))
+pub returns-then-strikes : goal.returns-then-strikes
+returns-then-strikes c = λ S x logged plan is p.
+    let e : eqb (letter_in c.args.l.now 16) X ≡ true = search rules in
+    let z = rw e at (struck_is S x logged plan is p) in search rules
 
-pub returns-else-l-eq88 : goal.returns-else-l-eq88
-returns-else-l-eq88 c = λ S x logged plan is p. rw (ne_eqb _ _ c.if-l-eq88.false) at (struck_is S x logged plan is p)
+pub returns-else-strikes : goal.returns-else-strikes
+returns-else-strikes c = λ S x logged plan is p.
+    let e : eqb (letter_in c.args.l.now 16) X ≡ false = search rules in
+    let z = rw e at (struck_is S x logged plan is p) in search rules

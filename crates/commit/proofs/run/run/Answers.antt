@@ -24,7 +24,7 @@ returns-then-m-n c =
     let planned = plan_told S x z ok writes marks (c.plan_of-p.ensures few) in
     let struck = c.struck_of-q.ensures S x a.logged a.plan told refl in
     let held = run_pushed S x a.logged a.plan z ok planned struck stopped
-    (λ h. rw c.new-j.ensures at (c.push_run.ensures S x a.logged a.plan h writes)) in
+    (λ h. rw (← c.place.ensures) (rw c.new-j.ensures at (c.push_run.ensures S x a.logged a.plan h writes))) in
     run_cut S x a.logged a.plan a.cut held c.len-n.ensures.count c.stop_at-m.ensures c.apply-t.ensures c.cut_answer.ensures c.if-m-n.true
 
 pub returns : goal.returns
@@ -43,6 +43,6 @@ returns c =
     let planned = plan_told S x z ok writes marks (c.plan_of-p.ensures few) in
     let struck = c.struck_of-q.ensures S x a.logged a.plan told refl in
     let held = run_pushed S x a.logged a.plan z ok planned struck stopped
-    (λ h. rw c.new-j.ensures at (c.push_run.ensures S x a.logged a.plan h writes)) in
+    (λ h. rw (← c.place.ensures) (rw c.new-j.ensures at (c.push_run.ensures S x a.logged a.plan h writes))) in
     run_whole S x a.logged a.plan a.cut held c.len-n.ensures.count c.stop_at-m.ensures c.apply-t.ensures
     _ stopped found.1 _ told (c.whole_answer.ensures laid) c.if-m-n.false
