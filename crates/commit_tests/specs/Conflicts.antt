@@ -1,5 +1,6 @@
 -- The four tests of commit, entry by entry, on a store whose fields are lent: what a test answers from the place where it stands.
-use Rattle.std.specs.Prelude.{◌≡◌, Bool, true, false, not, cond, ◌&&◌, ◌||◌, List, [], ◌∷◌, map, ℕ, suc, ◌+◌, get_or, length, position, eqb, leb, ltb, Option, Some, None, is_some, option_map}
+use Rattle.std.specs.Prelude.{◌≡◌, Bool, true, false, not, cond, ◌&&◌, ◌||◌, List, [], ◌∷◌, map, ℕ, suc, ◌+◌}
+use Rattle.std.specs.Prelude.{get_or, length, position, eqb, leb, ltb, Option, Some, None, is_some, option_map}
 use Rattle.std.proofs.Math.Nat.{add-zero, add-suc, suc-add}
 use Rattle.std.proofs.Common.{zero-add}
 use Rattle.std.proofs.Math.Numerals.{add-one}

@@ -16,7 +16,8 @@ unfolding end_place
 passed_on g (Ok u) p = absurd p
 passed_on g (Err h) p = ap place_of p
 
-pub passed_as_stop : (g : Gate) (q : Result ⊤ Stop) → IsErrAnd q (λ s. s ≡ record { gate = g; cause = BusyGuard }) → q ≡ Err (record { gate = g; cause = BusyGuard })
+pub passed_as_stop : (g : Gate) (q : Result ⊤ Stop) → IsErrAnd q (λ s. s ≡ record { gate = g; cause = BusyGuard })
+    → q ≡ Err (record { gate = g; cause = BusyGuard })
 passed_as_stop g (Ok u) p = absurd p
 passed_as_stop g (Err s) p = ap Err p
 
@@ -42,7 +43,8 @@ module _ (n : ℕ) (bs cs : List Bool) where
   unfolding stop_place
   stops_here s e = gate_stops n (place_of s.gate) bs cs e (place_below s.gate)
 
-  pub stops_on : {u : ⊤} {q : ℕ} → stop_place (Ok u) ≡ gate_from n bs → n + length bs ≤ clean_gate → q ≡ gate_from (n + length bs) cs → q ≡ gate_from n (bs ++ cs)
+  pub stops_on : {u : ⊤} {q : ℕ} → stop_place (Ok u) ≡ gate_from n bs → n + length bs ≤ clean_gate → q ≡ gate_from (n + length bs) cs
+      → q ≡ gate_from n (bs ++ cs)
   unfolding stop_place
   stops_on e few t = gate_goes n clean_gate _ bs cs e (omega arith) few t
 

@@ -2,9 +2,12 @@
 use Rattle.std.specs.Prelude.{◌≡◌, ℕ, ◌<◌, Result, Ok, Err, ⊤}
 use Rattle.std.proofs.Common.{arith}
 use Rattle.steps.specs.declared.gate.Gate.{Gate}
-use Rattle.steps.specs.declared.gate.Gate.TheVariants.{ChangesFailed, LockKeysFailed, RecordFailed, PrepareFailed, PreparePanicked, IndexGuardsFailed, IndexGuardsBusy, PartitionGuardsFailed, PartitionGuardsBusy}
-use Rattle.steps.specs.declared.gate.Gate.TheVariants.{UnloggedCheckFailed, DurablyBound, Poisoned, IndexReadsFailed, IndexReadsConflict, RowLocksFailed, RowLocksConflict, SerializationFailed, SerializationConflict}
-use Rattle.steps.specs.declared.gate.Gate.TheVariants.{WriteBaseFailed, WriteBaseConflict, InsertFailed, CallbackEnded, RemoveFailed, PublishFailed, RecycleFailed, FinishFailed, StampFailed}
+use Rattle.steps.specs.declared.gate.Gate.TheVariants.{ChangesFailed, LockKeysFailed, RecordFailed, PrepareFailed, PreparePanicked}
+use Rattle.steps.specs.declared.gate.Gate.TheVariants.{IndexGuardsFailed, IndexGuardsBusy, PartitionGuardsFailed, PartitionGuardsBusy}
+use Rattle.steps.specs.declared.gate.Gate.TheVariants.{UnloggedCheckFailed, DurablyBound, Poisoned, IndexReadsFailed, IndexReadsConflict}
+use Rattle.steps.specs.declared.gate.Gate.TheVariants.{RowLocksFailed, RowLocksConflict, SerializationFailed, SerializationConflict}
+use Rattle.steps.specs.declared.gate.Gate.TheVariants.{WriteBaseFailed, WriteBaseConflict, InsertFailed, CallbackEnded}
+use Rattle.steps.specs.declared.gate.Gate.TheVariants.{RemoveFailed, PublishFailed, RecycleFailed, FinishFailed, StampFailed}
 use Rattle.steps.specs.GateTable.{clean_gate}
 
 unfoldable pub place_of : Gate → ℕ

@@ -82,7 +82,8 @@ pub(crate) fn ensure_unlogged_write_allowed(
     writing: bool,
     bound: bool,
 ) -> Result<(), Gate>
-    ensures { end_place result ≡ gate_from unlogged_check_failed (((not logged && writing) && hits (letter_in l.now) 9 F) ∷ ((not logged && writing) && bound) ∷ []) }
+    ensures { end_place result
+        ≡ gate_from unlogged_check_failed (((not logged && writing) && hits (letter_in l.now) 9 F) ∷ ((not logged && writing) && bound) ∷ []) }
 {
     let asked = !logged && writing;
     stop_if(asked && l.strikes(9, b'F'), Gate::UnloggedCheckFailed)?;

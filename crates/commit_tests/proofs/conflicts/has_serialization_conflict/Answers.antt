@@ -19,6 +19,7 @@ returns c =
     first_place (read_conflict S x) (take x.read_count x.reads)
     (position_from_yields_List (read_conflict S x) _ _ _ c.position.ensures.ran (YieldsList-from_take x.read_count (YieldsList-from_slice x.reads (cc)) (cc))
     (λ e b q k.
-    let z : (q ≡ _) × (b ≡ read_conflict_of (at_rows s.heads) (at_places s.xmin) (at_places s.xmax) (take x.snapshot_count (at_active x.snapshot)) x.txid.0 x.snapshot_xmax.0 e.now) =
+    let z : (q ≡ _) × (b ≡ read_conflict_of (at_rows s.heads) (at_places s.xmin) (at_places s.xmax)
+    (take x.snapshot_count (at_active x.snapshot)) x.txid.0 x.snapshot_xmax.0 e.now) =
     search rules in
     (z.0, z.1 ∙ rw (array_same active_limit 0 x.snapshot long) (read_conflict_of_law S x e.now h m n))))

@@ -20,7 +20,8 @@ returns-in_err-i c = λ S h.
     rw c.if-x.false (
     c.from_residual.ensures ∙ ap (option_map (λ k. k + 1)) (
     sym c.in_err-i.was ∙ first_place (stamp_differs S) (take x.index_read_count x.index_reads)
-    (position_from_yields_List (stamp_differs S) _ _ _ c.position.ensures.ran (YieldsList-from_take x.index_read_count (YieldsList-from_slice x.index_reads (cc)) (cc))
+    (position_from_yields_List (stamp_differs S) _ _ _ c.position.ensures.ran
+    (YieldsList-from_take x.index_read_count (YieldsList-from_slice x.index_reads (cc)) (cc))
     (λ e b q k.
     let z : (q ≡ _) × (b ≡ not (eqb (get_or (at_stripes s.stamps) e.now.stripe 0) e.now.stamp.0)) = search rules in
     (z.0, z.1 ∙ rw h)))) ∙ later_place _ _)
@@ -33,7 +34,8 @@ returns c = λ S h.
     rw c.if-x.false (
     ap (option_map (λ k. k + 1)) (
     sym c.in_ok-i.was ∙ first_place (stamp_differs S) (take x.index_read_count x.index_reads)
-    (position_from_yields_List (stamp_differs S) _ _ _ c.position.ensures.ran (YieldsList-from_take x.index_read_count (YieldsList-from_slice x.index_reads (cc)) (cc))
+    (position_from_yields_List (stamp_differs S) _ _ _ c.position.ensures.ran
+    (YieldsList-from_take x.index_read_count (YieldsList-from_slice x.index_reads (cc)) (cc))
     (λ e b q k.
     let z : (q ≡ _) × (b ≡ not (eqb (get_or (at_stripes s.stamps) e.now.stripe 0) e.now.stamp.0)) = search rules in
     (z.0, z.1 ∙ rw h)))) ∙ later_place _ _)

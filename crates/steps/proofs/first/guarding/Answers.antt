@@ -13,14 +13,16 @@ pub returns-in_err-acquire_partition_locks : goal.returns-in_err-acquire_partiti
 unfolding guarding_tests
 returns-in_err-acquire_partition_locks c =
     goes_on _ _ _ c.in_ok-acquire_index_locks.ensures (omega arith) (
-    ends_here _ _ _ c.in_err-acquire_partition_locks.field-0.0 c.from_residual-in_err-acquire_partition_locks.result c.from_residual-in_err-acquire_partition_locks.ensures.1 c.in_err-acquire_partition_locks.ensures)
+    ends_here _ _ _ c.in_err-acquire_partition_locks.field-0.0 c.from_residual-in_err-acquire_partition_locks.result
+    c.from_residual-in_err-acquire_partition_locks.ensures.1 c.in_err-acquire_partition_locks.ensures)
 
 pub returns-in_err-ensure_unlogged_write_allowed : goal.returns-in_err-ensure_unlogged_write_allowed
 unfolding guarding_tests
 returns-in_err-ensure_unlogged_write_allowed c =
     goes_on _ _ _ c.in_ok-acquire_index_locks.ensures (omega arith) (
     goes_on _ _ _ c.in_ok-acquire_partition_locks.ensures (omega arith) (
-    ends_here _ _ _ c.in_err-ensure_unlogged_write_allowed.field-0.0 c.from_residual-in_err-ensure_unlogged_write_allowed.result c.from_residual-in_err-ensure_unlogged_write_allowed.ensures.1 c.in_err-ensure_unlogged_write_allowed.ensures))
+    ends_here _ _ _ c.in_err-ensure_unlogged_write_allowed.field-0.0 c.from_residual-in_err-ensure_unlogged_write_allowed.result
+    c.from_residual-in_err-ensure_unlogged_write_allowed.ensures.1 c.in_err-ensure_unlogged_write_allowed.ensures))
 
 pub returns : goal.returns
 unfolding guarding_tests

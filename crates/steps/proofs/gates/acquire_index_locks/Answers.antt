@@ -10,7 +10,8 @@ use Rattle.steps.proofs.gates.acquire_index_locks.Goals as goal
 pub returns-in_err-stop_if : goal.returns-in_err-stop_if
 unfolding place_of
 returns-in_err-stop_if c =
-    ends_here 5 (hits (letter_in c.args.l.now) 7 F ∷ []) (hits (letter_in c.args.l.now) 7 B ∷ []) c.in_err-stop_if.field-0.0 c.from_residual.result c.from_residual.ensures.1 (search rules)
+    ends_here 5 (hits (letter_in c.args.l.now) 7 F ∷ []) (hits (letter_in c.args.l.now) 7 B ∷ []) c.in_err-stop_if.field-0.0
+    c.from_residual.result c.from_residual.ensures.1 (search rules)
 
 pub returns : goal.returns
 unfolding place_of

@@ -10,7 +10,8 @@ use Rattle.steps.proofs.gates.acquire_partition_locks.Goals as goal
 pub returns-in_err-stop_if : goal.returns-in_err-stop_if
 unfolding place_of
 returns-in_err-stop_if c =
-    ends_here 7 (hits (letter_in c.args.l.now) 8 F ∷ []) (hits (letter_in c.args.l.now) 8 B ∷ []) c.in_err-stop_if.field-0.0 c.from_residual.result c.from_residual.ensures.1 (search rules)
+    ends_here 7 (hits (letter_in c.args.l.now) 8 F ∷ []) (hits (letter_in c.args.l.now) 8 B ∷ []) c.in_err-stop_if.field-0.0
+    c.from_residual.result c.from_residual.ensures.1 (search rules)
 
 pub returns : goal.returns
 unfolding place_of

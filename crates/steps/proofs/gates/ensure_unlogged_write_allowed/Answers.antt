@@ -10,8 +10,12 @@ use Rattle.steps.proofs.gates.ensure_unlogged_write_allowed.Goals as goal
 pub returns-in_err-stop_if : goal.returns-in_err-stop_if
 unfolding place_of
 returns-in_err-stop_if c =
-    ends_here 9 (((not c.args.logged && c.args.writing) && hits (letter_in c.args.l.now) 9 F) ∷ []) (((not c.args.logged && c.args.writing) && c.args.bound) ∷ []) c.in_err-stop_if.field-0.0 c.from_residual.result c.from_residual.ensures.1 (search rules)
+    ends_here 9 (((not c.args.logged && c.args.writing) && hits (letter_in c.args.l.now) 9 F) ∷ [])
+    (((not c.args.logged && c.args.writing) && c.args.bound) ∷ []) c.in_err-stop_if.field-0.0 c.from_residual.result
+    c.from_residual.ensures.1 (search rules)
 
 pub returns : goal.returns
 unfolding place_of
-returns c = goes_on 9 (((not c.args.logged && c.args.writing) && hits (letter_in c.args.l.now) 9 F) ∷ []) (((not c.args.logged && c.args.writing) && c.args.bound) ∷ []) (search rules) (omega arith) (search rules)
+returns c =
+    goes_on 9 (((not c.args.logged && c.args.writing) && hits (letter_in c.args.l.now) 9 F) ∷ [])
+    (((not c.args.logged && c.args.writing) && c.args.bound) ∷ []) (search rules) (omega arith) (search rules)

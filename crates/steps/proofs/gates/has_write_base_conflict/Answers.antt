@@ -17,7 +17,8 @@ pub returns-in_err-stop_if : goal.returns-in_err-stop_if
 unfolding place_of row_at
 returns-in_err-stop_if c = λ S d.
     let x = c.args.x.now in
-    fault_stops S x 18 (hits (letter_in c.args.l.now) 14 F) (write_base_conflict S x) c.in_err-stop_if.field-0.0 c.from_residual.result c.from_residual.ensures.1
+    fault_stops S x 18 (hits (letter_in c.args.l.now) 14 F) (write_base_conflict S x) c.in_err-stop_if.field-0.0 c.from_residual.result
+    c.from_residual.ensures.1
     (search rules) refl
 
 pub returns-in-None : goal.returns-in-None

@@ -10,8 +10,11 @@ use Rattle.steps.proofs.gates.run_prepare.Goals as goal
 pub returns-in_err-stop_if : goal.returns-in_err-stop_if
 unfolding place_of
 returns-in_err-stop_if c =
-    ends_here 3 ((c.args.logged && hits (letter_in c.args.l.now) 6 F) ∷ []) ((c.args.logged && hits (letter_in c.args.l.now) 6 P) ∷ []) c.in_err-stop_if.field-0.0 c.from_residual.result c.from_residual.ensures.1 (search rules)
+    ends_here 3 ((c.args.logged && hits (letter_in c.args.l.now) 6 F) ∷ []) ((c.args.logged && hits (letter_in c.args.l.now) 6 P) ∷ [])
+    c.in_err-stop_if.field-0.0 c.from_residual.result c.from_residual.ensures.1 (search rules)
 
 pub returns : goal.returns
 unfolding place_of
-returns c = goes_on 3 ((c.args.logged && hits (letter_in c.args.l.now) 6 F) ∷ []) ((c.args.logged && hits (letter_in c.args.l.now) 6 P) ∷ []) (search rules) (omega arith) (search rules)
+returns c =
+    goes_on 3 ((c.args.logged && hits (letter_in c.args.l.now) 6 F) ∷ []) ((c.args.logged && hits (letter_in c.args.l.now) 6 P) ∷ [])
+    (search rules) (omega arith) (search rules)

@@ -6,4 +6,6 @@ use Rattle.steps.specs.Places.{place_numbered}
 use Rattle.steps.proofs.gate.Gate.place.Goals as goal
 
 pub returns : goal.returns
-returns c = place_numbered (tag_of the_type) refl refl refl refl refl refl refl refl refl refl refl refl refl refl refl refl refl refl refl refl refl refl refl refl refl refl refl c.args.self
+returns c =
+    place_numbered (tag_of the_type) refl refl refl refl refl refl refl refl refl refl refl refl refl refl refl refl refl refl refl refl refl
+    refl refl refl refl refl refl c.args.self
