@@ -41,7 +41,8 @@ unless_err first more {v} e =
     let kept : first ≡ unless first more = unless_kept first more (sym (ap is_done r.0) ∙ r.1) in
     e ∙ ap as_result kept
 
-pub unless_ok : (u : Unit {0}) (first more : Refusal) {r : Result (Unit {0}) Refusal} → Ok u ≡ as_result first → r ≡ as_result more → r ≡ as_result (unless first more)
+pub unless_ok : (u : Unit {0}) (first more : Refusal) {r : Result (Unit {0}) Refusal} → Ok u ≡ as_result first → r ≡ as_result more
+    → r ≡ as_result (unless first more)
 unless_ok u first more e f = f ∙ ap as_result (unless_more first more more (done_is u first e) refl)
 
 -- a planned row of puts, all of it applied

@@ -5,7 +5,9 @@ use Rattle.calls.specs.LockAnswer.{lock_tries}
 use Rattle.calls.proofs.lock.lock_refusal.Goals as goal
 
 pub returns-in_err-healthy : goal.returns-in_err-healthy
-returns-in_err-healthy c = let kept = unless_err (first_tries c.args.s.now c.args.x.now) (lock_tries c.args.r.0 c.args.locked c.args.head.0) c.in_err-healthy.ensures in search rules
+returns-in_err-healthy c =
+    let kept = unless_err (first_tries c.args.s.now c.args.x.now) (lock_tries c.args.r.0 c.args.locked c.args.head.0) c.in_err-healthy.ensures in
+    search rules
 
 pub returns-in_err-refuse : goal.returns-in_err-refuse
 unfolding lock_tries

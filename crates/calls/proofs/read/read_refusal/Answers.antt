@@ -5,7 +5,9 @@ use Rattle.calls.specs.ReadAnswer.{read_tries}
 use Rattle.calls.proofs.read.read_refusal.Goals as goal
 
 pub returns-in_err-healthy : goal.returns-in_err-healthy
-returns-in_err-healthy c = let kept = unless_err (first_tries c.args.s.now c.args.x.now) (read_tries c.args.r.0 c.args.over) c.in_err-healthy.ensures in search rules
+returns-in_err-healthy c =
+    let kept = unless_err (first_tries c.args.s.now c.args.x.now) (read_tries c.args.r.0 c.args.over) c.in_err-healthy.ensures in
+    search rules
 
 pub returns-in_err-refuse : goal.returns-in_err-refuse
 unfolding read_tries

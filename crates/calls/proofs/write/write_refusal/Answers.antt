@@ -6,7 +6,10 @@ use Rattle.calls.specs.WriteAnswer.{write_tries}
 use Rattle.calls.proofs.write.write_refusal.Goals as goal
 
 pub returns-in_err-healthy : goal.returns-in_err-healthy
-returns-in_err-healthy c = let kept = unless_err (first_tries c.args.s.now c.args.x.now) (write_tries c.args.r.0 c.args.x.now.write_count (impossible c.args.v) (eqb c.args.free.0 0)) c.in_err-healthy.ensures in search rules
+returns-in_err-healthy c =
+    let kept = unless_err (first_tries c.args.s.now c.args.x.now)
+    (write_tries c.args.r.0 c.args.x.now.write_count (impossible c.args.v) (eqb c.args.free.0 0)) c.in_err-healthy.ensures in
+    search rules
 
 pub returns-in_err-refuse : goal.returns-in_err-refuse
 unfolding write_tries
