@@ -1,5 +1,6 @@
 -- A field read byte by byte is what the definitions read at once.
-use Rattle.std.specs.Prelude.{◌≡◌, refl, Some, None, option_map, true, false, cond, ◌&&◌, [], ◌∷◌, ℕ, ◌+◌, ◌-◌, ◌*◌, ◌<◌, ◌≤◌, eqb, ltb, leb, length, get_or, drop}
+use Rattle.std.specs.Prelude.{◌≡◌, refl, Some, None, option_map, true, false, cond, ◌&&◌, [], ◌∷◌}
+use Rattle.std.specs.Prelude.{ℕ, ◌+◌, ◌-◌, ◌*◌, ◌<◌, ◌≤◌, eqb, ltb, leb, length, get_or, drop}
 use Rattle.std.proofs.Common.{◌∙◌, add-one, arith, drop_of_length-le, drop-cons}
 use Rattle.std.proofs.Math.Bool.{and-false, and_assoc}
 use Rattle.std.specs.Bool.{then_some}

@@ -27,7 +27,8 @@ up_to_fits c (b ∷ s) = by (eqb b c) (λ e. rw e (omega arith)) (λ e. rw e (om
 pub up_to_place : (c : ℕ) (s : Bytes) → unwrap_or (position (λ b. b == c) s) (length s) ≡ up_to c s
 unfolding up_to
 up_to_place c s =
-    let e : up_to c s ≡ position_or_len (λ b. b == c) s = is_position_or_len (up_to c) (λ b. b == c) refl (λ b bs. by (eqb b c) (λ t. rw t) (λ t. rw t (omega arith))) s in
+    let e : up_to c s ≡ position_or_len (λ b. b == c) s =
+    is_position_or_len (up_to c) (λ b. b == c) refl (λ b bs. by (eqb b c) (λ t. rw t) (λ t. rw t (omega arith))) s in
     by (ltb (position_or_len (λ b. b == c) s) (length s))
     (λ l. rw (l, e))
     (λ l. rw (l, e) (omega (arith, up_to_fits c s, e, ltb-false)))
