@@ -11,11 +11,11 @@ returns-in-Err c =
     let why = refused_is _ _ c.in-Err.ensures in
     c.none_found.ensures ∙ lookup_refused c.args.s c.args.x _ (sized c.args.s c.well_formed.0) refl refl why.0 why.1
 
-pub returns-in_default : goal.returns-in_default
-returns-in_default c =
-    c.none_found-in_default.ensures
+pub returns-in_default-record_marked : goal.returns-in_default-record_marked
+returns-in_default-record_marked c =
+    c.none_found-in_default-record_marked.ensures
     ∙ lookup_full c.args.s c.args.x _ (sized c.args.s c.well_formed.0) refl refl (passed _ _ c.in_default.ensures) refl
-    c.candidates-marks.ensures c.record_marked.ensures c.in_default-2.is
+    c.candidates-marks.ensures c.record_marked.ensures c.in_default-record_marked.is
 
 pub returns : goal.returns
 returns c =

@@ -15,3 +15,8 @@ pub returns : goal.returns
 returns c =
     read_done c.args.s c.args.x _ (sized c.args.s c.well_formed.0) _ c.with_read-reads.ensures refl refl c.is_none.ensures
     (passed _ _ c.in_default.ensures) c.in-Some.is refl c.read_ptr.ensures c.value_at-v.ensures c.with_reads-y.ensures
+
+pub unreachable-requires : goal.unreachable-requires
+unreachable-requires c =
+    read_never c.args.s c.args.x _ (sized c.args.s c.well_formed.0) _ c.with_read-reads.ensures refl refl c.is_none.ensures
+    (passed _ _ c.in_default.ensures) refl c.in_default-reads.is
