@@ -17,7 +17,8 @@ use records::{Answer, Cut, Schedule, SlotPtr, Store, Tx};
 use steps::first::first_gate;
 use steps::stop::place;
 
-// The answer of the steps, by the marks of the admission's walk; a cut only makes fewer of the stores.
+// The answer of the steps, by the marks of the admission's walk; a cut only makes fewer of the stores. By value, as commit has them: of a lent transaction
+// a proof doesn't see how long its arrays are.
 pub fn run(
     s: Store,
     x: Tx,

@@ -37,6 +37,7 @@ fn push_write(w: Write, t: Txid, limit: usize, j: &mut Journal)
 pub(crate) fn push_writes(writes: &[Write], t: Txid, limit: usize, j: &mut Journal)
     ensures { Adds j.old (take limit (flat (publish_one t.0) writes.now)) j.new }
 {
+    // counted, and no `take` of a chain: a write is one put or two
     let mut left = limit;
     for w in writes {
         push_write(*w, t, left, j);
