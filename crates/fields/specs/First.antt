@@ -1,9 +1,9 @@
 -- The first elements of an array, one place at a time: how a loop goes through the list that an array and a count make.
-use Rattle.std.specs.Prelude.{◌≡◌, Bool, true, false, List, [], ◌∷◌, ℕ, ◌+◌, ◌-◌, ◌<◌, ◌≤◌, min, length, get_or, take, drop}
-use Rattle.std.proofs.Common.{◌∙◌, add-one, arith, drop-cons}
+use Rattle.std.specs.Prelude.{◌≡◌, refl, Bool, true, false, List, [], ◌∷◌, ℕ, ◌+◌, ◌-◌, ◌<◌, ◌≤◌, min, length, get_or, take, drop}
+use Rattle.std.proofs.Common.{sym, ◌∙◌, add-one, arith, drop-cons, eq-eqb, ne_eqb}
 use Rattle.std.proofs.Math.ListN.{length-take, drop_of_length-le}
 use Rattle.std.proofs.Math.Seq.{get_or-take}
-use Rattle.rules.specs.Lists.{any}
+use Rattle.rules.specs.Lists.{memb, any}
 use Rattle.fields.specs.Lent.{array, array_length, array_at}
 
 module _ {ℓ} {A : Type ℓ} where
@@ -36,6 +36,14 @@ module _ {ℓ} {A : Type ℓ} where
 
   pub lent_end : (n count : ℕ) (z : A) (l : List A) (i : ℕ) → min count n ≤ i → first_from count (array n z l) i ≡ []
   lent_end n count z l i h = let long = array_length n z l in first_end count (array n z l) i (omega arith)
+
+-- t in a list: it stands first, or in the rest
+module _ (t x : ℕ) (l rest : List ℕ) (next : l ≡ x ∷ rest) where
+  pub memb_first : x ≡ t → memb t l ≡ true
+  memb_first e = rw (next, e, eq-eqb t t refl)
+
+  pub memb_rest : (x ≡ t → ⊥) → memb t l ≡ memb t rest
+  memb_rest n = rw (next, ne_eqb t x (λ e. n (sym e)))
 
 -- one in a list that passes: the first does, or one of the rest
 module _ {ℓ} {A : Type ℓ} (f : A → Bool) (x : A) (l rest : List A) (next : l ≡ x ∷ rest) where

@@ -1,4 +1,5 @@
--- The relations between limits that proofs rest on, each computed here: limits that break one fail here. Behind it, who needs it.
+-- The relations between limits that code and proofs rest on, each computed here: limits that break one fail here. Behind it, who needs it
+-- (or that nothing does any more).
 use Rattle.std.specs.Prelude.{suc, ◌+◌, ◌*◌, ◌^◌, ◌≤◌, ◌<◌}
 use Rattle.std.proofs.Common.{arith}
 use Rattle.records.specs.Limits.{rows, places, posting_limit, stripes, partitions, write_limit, index_read_limit, key_end, clock_end}
@@ -23,18 +24,19 @@ rows_some = omega arith
 pub stripes_some : 0 < stripes
 stripes_some = omega arith
 
--- a slot pointer has 32 bits (casts of the code; commit Publish)
+-- a slot pointer has 32 bits (casts of the code, each shown by computing: journal `push_frees`, visibility `lowest_free`, `own_marks`; no proof names it)
 pub slots_narrow : places ≤ key_end
 slots_narrow = omega arith
 
--- a posting, and the kind and place of a put in one word, have 64 bits (products of the code)
+-- a posting has 64 bits (products of the code, shown by computing too)
 pub postings_wide : key_end * rows ≤ suc clock_end
 postings_wide = omega arith
 
+-- the kind and place of a put in one word have 64 bits (nothing any more: the journal packed its puts so, and now has them as they are)
 pub words_wide : key_end * place_base ≤ suc clock_end
 words_wide = omega arith
 
--- every place of a store's arrays can be a put's (calls WriteAnswer, LockAnswer; commit Blocks, Publish)
+-- every place of a store's arrays is below the base of that packing (nothing any more)
 pub rows_placed : rows ≤ place_base
 rows_placed = omega arith
 
