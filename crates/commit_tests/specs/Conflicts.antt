@@ -1,6 +1,6 @@
 -- The four tests of commit, entry by entry, on a store whose fields are lent: what a test answers from the place where it stands.
 use Rattle.std.specs.Prelude.{◌≡◌, Bool, true, false, not, cond, ◌&&◌, ◌||◌, List, [], ◌∷◌, map, ℕ, suc, ◌+◌}
-use Rattle.std.specs.Prelude.{get_or, length, position, eqb, leb, ltb, Option, Some, None, is_some, option_map}
+use Rattle.std.specs.Prelude.{get_or, length, position, eqb, leb, ltb, Option, Some, None, is_some, Result, Ok, Err, is_err}
 use Rattle.std.proofs.Math.Nat.{add-zero, add-suc, suc-add}
 use Rattle.std.proofs.Common.{zero-add}
 use Rattle.std.proofs.Math.Numerals.{add-one}
@@ -16,55 +16,76 @@ use Rattle.rules.specs.Tests.{stamp_differs, read_conflict, base_moved, finals_t
 use Rattle.rules.specs.Tests.{index_read_conflict, write_base_conflict, index_read_place, write_base_place}
 use Rattle.fields.specs.Lent.{at_rows, at_places, flags_at_places, at_active, at_stripes}
 
--- if an entry conflicts, the place of the first that does
-abbrev pub tested : Bool → ℕ → Option ℕ
-tested true p = Some p
-tested false p = None
+-- `Err` of the place of the first entry that conflicts, or of their number `Ok`, if none does
+abbrev pub tested : Bool → ℕ → Result ℕ ℕ
+tested true p = Err p
+tested false p = Ok p
+
+-- either way, the number that is told
+abbrev pub place_told : Result ℕ ℕ → ℕ
+place_told (Ok n) = n
+place_told (Err i) = i
 
 abbrev some_or : ℕ → Option ℕ → ℕ
 some_or d None = d
 some_or d (Some i) = i
 
 -- what the answer says of the test
-pub some_tested : (b : Bool) (p : ℕ) {i : ℕ} → Some i ≡ tested b p → (b ≡ true) × (i ≡ p)
-some_tested true p e = (refl, ap (some_or 0) e)
-some_tested false p e = absurd (true≢false (ap is_some e))
+pub tested_yes : (b : Bool) (p : ℕ) {t : Result ℕ ℕ} → t ≡ tested b p → is_err t ≡ b
+tested_yes true p e = ap is_err e
+tested_yes false p e = ap is_err e
 
-pub none_tested : (b : Bool) (p : ℕ) → None ≡ tested b p → b ≡ false
-none_tested true p e = absurd (true≢false (sym (ap is_some e)))
-none_tested false p e = refl
+pub tested_place : (b : Bool) (p : ℕ) {t : Result ℕ ℕ} → t ≡ tested b p → place_told t ≡ p
+tested_place true p e = ap place_told e
+tested_place false p e = ap place_told e
 
--- the same one place later
-pub later_place : (b : Bool) (p : ℕ) → option_map (λ k. k + 1) (tested b p) ≡ tested b (suc p)
-later_place true p = ap Some (omega arith)
+-- the same with an entry more in front, which doesn't conflict
+abbrev pub one_more : Result ℕ ℕ → Result ℕ ℕ
+one_more (Ok n) = Ok (suc n)
+one_more (Err i) = Err (suc i)
+
+pub later_place : (b : Bool) (p : ℕ) → one_more (tested b p) ≡ tested b (suc p)
+later_place true p = refl
 later_place false p = refl
 
 -- the library's words for the first place
-pub position_tested : {A : Type 0} (f : A → Bool) (l : List A)
-    → position f l ≡ tested (any f l) (first_true (map f l))
-position_tested f [] = refl
-position_tested {A} f (a ∷ l) = by (f a) (λ e. rw e here) (λ e. rw e (go (position_tested f l)))
+first_is : {A : Type 0} (f : A → Bool) (l : List A) → position_or_len f l ≡ first_true (map f l)
+first_is f [] = refl
+first_is {A} f (a ∷ l) = by (f a) (λ e. rw e) (λ e. rw e (let later = first_is f l in omega arith))
+
+one_is : {A : Type 0} (f : A → Bool) (l : List A) → ltb (position_or_len f l) (length l) ≡ any f l
+one_is f [] = refl
+one_is {A} f (a ∷ l) = by (f a) (λ e. rw (e, lt-ltb 0 (suc (length l)) (omega arith))) (λ e. rw e (shift (position_or_len f l) (length l) ∙ one_is f l))
   where
-    here : cond {A = Option ℕ} (ltb 0 (suc (length l))) (Some 0) None ≡ Some 0
-    here = rw (lt-ltb 0 (suc (length l)) (omega arith))
-
-    later : (b : Bool) (n : ℕ) → option_map (λ k. k + 1) (cond b (Some n) None) ≡ cond b (Some (1 + n)) None
-    later true n = ap Some (omega arith)
-    later false n = refl
-
     shift : (n m : ℕ) → ltb (1 + n) (suc m) ≡ ltb n m
     shift n m = grind arith
 
-    go : cond (ltb (position_or_len f l) (length l)) (Some (position_or_len f l)) None ≡ tested (any f l) (first_true (map f l))
-        → cond (ltb (1 + position_or_len f l) (suc (length l))) (Some (1 + position_or_len f l)) None ≡ tested (any f l) (suc (first_true (map f l)))
-    go e = rw (shift (position_or_len f l) (length l)) (sym (later _ _) ∙ ap (option_map (λ k. k + 1)) e ∙ later_place (any f l) _)
+-- if none does, that place is the number of all
+all_passed : {A : Type 0} (f : A → Bool) (l : List A) → any f l ≡ false → first_true (map f l) ≡ length l
+all_passed f [] e = refl
+all_passed f (a ∷ l) e = by (f a) (λ k. absurd (true≢false (rw k at e))) (λ k. rw k (ap suc (all_passed f l (rw k at e))))
 
--- so the library's first place of a test answers that test
-pub first_place : {A : Type 0} (f : A → Bool) (l : List A) {r : Option ℕ} → r ≡ position f l → r ≡ tested (any f l) (first_true (map f l))
-first_place f l s = s ∙ position_tested f l
+-- so an answer of the library's place, or of that number, answers the test
+module _ {A : Type 0} (f : A → Bool) (l : List A) where
+  found : {r : Option ℕ} → r ≡ position f l → r ≡ cond (any f l) (Some (first_true (map f l))) None
+  found e = rw (first_is f l) at (rw (one_is f l) at e)
+
+  pub first_place : {i v : ℕ} → Some i ≡ position f l → v ≡ i → Err v ≡ tested (any f l) (first_true (map f l))
+  first_place {i} {v} e is = go (any f l) (first_true (map f l)) (found e)
+    where
+      go : (b : Bool) (p : ℕ) → Some i ≡ cond b (Some p) None → Err v ≡ tested b p
+      go true p e = ap Err (is ∙ ap (some_or 0) e)
+      go false p e = absurd (true≢false (ap is_some e))
+
+  pub no_place : {n : ℕ} → None ≡ position f l → n ≡ length l → Ok n ≡ tested (any f l) (first_true (map f l))
+  no_place {n} e is = go (any f l) (first_true (map f l)) (found e) (all_passed f l)
+    where
+      go : (b : Bool) (p : ℕ) → None ≡ cond b (Some p) None → (b ≡ false → p ≡ length l) → Ok n ≡ tested b p
+      go true p e k = absurd (true≢false (sym (ap is_some e)))
+      go false p e k = ap Ok (is ∙ sym (k refl))
 
 -- what a test answers that has come to place i, of the entries from there on
-unfoldable pub answer_from : ℕ → List Bool → Option ℕ
+unfoldable pub answer_from : ℕ → List Bool → Result ℕ ℕ
 answer_from i bs = tested (yes bs) (i + first_true bs)
 
 -- the entry at i conflicts, or the later ones decide, or there is none
@@ -79,7 +100,7 @@ module _ (i : ℕ) (l : List Bool) {b : Bool} {bs : List Bool} (next : l ≡ b �
 
 pub answer_none : (i : ℕ) (l : List Bool) → l ≡ [] → answer_from i l ≡ tested false i
 unfolding answer_from
-answer_none i l e = rw e
+answer_none i l e = rw (e, add-zero i)
 
 -- from the first place on: of 12 and 13, of 11, of 14
 pub answer_all {ℓ} : {A : Type ℓ} (f : A → Bool) (l : List A) → answer_from 0 (map f l) ≡ tested (any f l) (first_true (map f l))

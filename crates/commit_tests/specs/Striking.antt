@@ -59,7 +59,7 @@ within (f ∷ fs) n h =
     (λ e. rw (e, get_or-set_other (table_of fs) f.step n f no_fault (λ q. eqb-false f.step n e (sym q))) (within fs n h))
 
 -- the table's entry at any number
-entry_at_law : (l : List Fault) (n : ℕ) → get_or (table_of l) n no_fault ≡ entry_at l n
+pub entry_at_law : (l : List Fault) (n : ℕ) → get_or (table_of l) n no_fault ≡ entry_at l n
 entry_at_law l n =
     let long = table_length l in
     by (ltb n fault_limit)
