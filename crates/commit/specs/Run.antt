@@ -16,7 +16,8 @@ use Rattle.steps.specs.declared.stop.Stop.{Stop}
 use Rattle.steps.specs.GateTable.{clean_gate, number_at, passed_at, left_at}
 use Rattle.commit_tests.specs.Striking.{letter_in}
 use Rattle.steps.specs.Stops.{gate_of}
-use Rattle.steps.specs.Ended.{stop_place, cause_of, Told}
+use Rattle.steps.specs.Causes.{cause_at}
+use Rattle.steps.specs.Ended.{stop_place, cause_of}
 use Rattle.steps.specs.RecordAndEvents.{record_if, events_by}
 use Rattle.steps.specs.Ends.{ending_for, tx_for}
 use Rattle.steps.specs.RunFound.{answered}
@@ -87,9 +88,10 @@ module _ (S : Store) (x : Tx) (logged : Bool) (plan : Schedule) (cut : Cut) {j :
       })
       ∙ cut_is cut stop l
 
-  pub run_whole : {a : Answer} (s : Result ⊤ Stop) → stop_place s ≡ gate_of S x logged plan → Told S x s
+  pub run_whole : {a : Answer} (s : Result ⊤ Stop) → stop_place s ≡ gate_of S x logged plan
+      → (number_at (stop_place s) ≡ 7 → cause_of s ≡ cause_at S x (stop_place s))
       → (l : Letters) → l ≡ letters plan → a ≡ whole_answer T x logged S.bound l s n → n ≤ m → a ≡ answer S x logged (run_of S x logged plan) cut
-  unfolding whole_answer Told
+  unfolding whole_answer
   run_whole s at why l is e all_made =
       let p = letter_in l in
       let g = stop_place s in

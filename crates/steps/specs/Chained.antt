@@ -1,13 +1,13 @@
 -- Steps one after another: one of them ends the run, or the next ones decide.
-use Rattle.std.specs.Prelude.{◌≡◌, Bool, List, [], ◌∷◌, true, false, ◌++◌, ℕ, ◌+◌, ◌≤◌, length, Result, Ok, Err, IsErrAnd, Some, None, ⊤}
-use Rattle.std.proofs.Common.{sym, ap, ◌∙◌, arith}
-use Rattle.rules.specs.Types.{Store, Tx, BusyGuard}
+use Rattle.std.specs.Prelude.{◌≡◌, Bool, List, [], ◌∷◌, true, false, ◌++◌, ℕ, suc, ◌+◌, ◌≤◌, length, Result, Ok, Err, IsErrAnd, ⊤}
+use Rattle.std.proofs.Common.{refl, sym, ap, ◌∙◌, arith}
+use Rattle.rules.specs.Types.{Store, Tx, Cause, BusyGuard}
 use Rattle.steps.specs.declared.gate.Gate.{Gate}
 use Rattle.steps.specs.declared.stop.Stop.{Stop}
-use Rattle.steps.specs.GateTable.{clean_gate, row_at, number_at}
-use Rattle.commit_tests.specs.Conflicts.{tested, some_tested, none_tested}
+use Rattle.steps.specs.GateTable.{clean_gate, row_at}
+use Rattle.steps.specs.Causes.{cause_after, cause_at}
 use Rattle.steps.specs.Places.{place_of, place_below, end_place}
-use Rattle.steps.specs.Ended.{stop_place, Told}
+use Rattle.steps.specs.Ended.{stop_place, Told, two_gates}
 use Rattle.steps.specs.Stops.{gate_from, gate_stops, gate_goes}
 
 -- what `?` passes on: the gate as it is, the gate as a stop, the stop as it is
@@ -48,37 +48,16 @@ module _ (n : ℕ) (bs cs : List Bool) where
   unfolding stop_place
   stops_on e few t = gate_goes n clean_gate _ bs cs e (omega arith) few t
 
-zero_seven : ◌≡◌ {A = ℕ} 0 7 → ⊥
-zero_seven e = omega arith
-
-four_seven : ◌≡◌ {A = ℕ} 4 7 → ⊥
-four_seven e = omega arith
-
--- a clean run has no cause, and a fault's is not asked for
+-- a clean run has no cause
 pub clean_told : (S : Store) (x : Tx) (u : ⊤) → Told S x (Ok u)
-unfolding Told stop_place row_at
-clean_told S x u e = absurd (zero_seven e)
+unfolding Told stop_place row_at cause_after
+clean_told S x u = refl
 
--- the fault before a test is struck
-one_gate : (n : ℕ) (b : Bool) (g : Gate) → end_place (Err g) ≡ gate_from n (b ∷ []) → place_of g ≡ n
-unfolding gate_from end_place
-one_gate n true g e = e
-one_gate n false g e = absurd (never g e)
-
-pub fault_stops : (S : Store) (x : Tx) (n : ℕ) (b c : Bool) (g : Gate) (q : Result ⊤ Stop) → IsErrAnd q (λ s. s ≡ record { gate = g; cause = BusyGuard })
-    → end_place (Err g) ≡ gate_from n (b ∷ []) → number_at n ≡ 4 → (stop_place q ≡ gate_from n (b ∷ c ∷ [])) × Told S x q
-unfolding end_place stop_place Told
-fault_stops S x n b c g q gives e four =
-    rw (passed_as_stop g q gives)
-    (gate_stops n (place_of g) (b ∷ []) (c ∷ []) e (place_below g), λ seven. absurd (four_seven (sym four ∙ sym (ap number_at (one_gate n b g e)) ∙ seven)))
-
--- the test is made: it says no, or names a place
-pub no_conflict : (S : Store) (x : Tx) (n : ℕ) (b c : Bool) (p : ℕ) {u : ⊤} → end_place (Ok u) ≡ gate_from n (b ∷ []) → n + 1 ≤ clean_gate → None ≡ tested c p
-    → (stop_place (Ok tt) ≡ gate_from n (b ∷ c ∷ [])) × Told S x (Ok tt)
-unfolding gate_from stop_place
-no_conflict S x n b c p e few said = (goes_on n (b ∷ []) (c ∷ []) e few (rw (none_tested c p said)), clean_told S x tt)
-
-pub conflict_stops : (n : ℕ) (b c : Bool) (p : ℕ) {i : ℕ} {u : ⊤} → end_place (Ok u) ≡ gate_from n (b ∷ []) → n + 1 ≤ clean_gate → Some i ≡ tested c p
-    → n + 1 ≡ gate_from n (b ∷ c ∷ [])
-unfolding gate_from
-conflict_stops n b c p e few said = goes_on n (b ∷ []) (c ∷ []) e few (rw (some_tested c p said).0)
+-- a test's two gates, one after the other: the first that holds ends the run, with the test's cause
+pub tested_ends : (S : Store) (x : Tx) (n : ℕ) (f g : Gate) (k : Cause)
+    → place_of f ≡ n → place_of g ≡ suc n → k ≡ cause_at S x n → k ≡ cause_at S x (suc n)
+    → (a b c d : Bool) → a ≡ b → c ≡ d → {q : Result ⊤ Stop} → q ≡ two_gates a f c g k → (stop_place q ≡ gate_from n (b ∷ d ∷ [])) × Told S x q
+unfolding two_gates gate_from stop_place Told row_at cause_after
+tested_ends S x n f g k pf pg kf kg a true c d h e q = rw (q, h) (pf, kf ∙ ap (cause_at S x) (sym pf))
+tested_ends S x n f g k pf pg kf kg a false c true h e q = rw (q, h, e) (pg, kg ∙ ap (cause_at S x) (sym pg))
+tested_ends S x n f g k pf pg kf kg a false c false h e q = rw (q, h, e) (refl, refl)

@@ -5,7 +5,7 @@ ghost use Rattle.rules.specs.Faults.{F, B, P};
 ghost use Rattle.steps.specs.GateTable.{changes_failed, lock_keys_failed, record_failed, prepare_failed, index_guards_failed, partition_guards_failed};
 ghost use Rattle.steps.specs.GateTable.{unlogged_check_failed, found_poison, index_reads_failed, row_locks_failed, serialization_failed, write_base_failed};
 ghost use Rattle.steps.specs.GateTable.{insert_failed, callback_ended, remove_failed, publish_failed, recycle_failed, finish_failed, stamp_failed, clean_gate};
-ghost use Rattle.commit_tests.specs.Conflicts.{Lends};
+ghost use Rattle.commit_tests.specs.Conflicts.{Lends, place_told};
 ghost use Rattle.commit_tests.specs.Striking.{letter_in};
 ghost use Rattle.steps.specs.Places.{end_place};
 ghost use Rattle.steps.specs.Ended.{stop_place, Told};
@@ -14,7 +14,7 @@ ghost use Rattle.rules.specs.Tests.{index_read_conflict, row_lock_conflict, seri
 ghost use Rattle.steps.specs.Stops.{gate_from, hits, ends_callback};
 
 use super::gate::Gate;
-use super::stop::{Stop, stop_if};
+use super::stop::{Stop, stop_if, stop_tested};
 use commit_tests::conflicts;
 use commit_tests::faults::Letters;
 use records::{Cause, Store, Tx};
@@ -97,21 +97,31 @@ pub(crate) fn check_not_poisoned(l: &Letters, poisoned: bool) -> Result<(), Gate
     stop_if(l.strikes(10, b'F') || poisoned, Gate::Poisoned)
 }
 
-// Steps 11 to 14: the fault strikes before the test is made.
+// The place that a test tells: of the first entry that conflicts, or past them all.
+fn place_told(test: Result<usize, usize>) -> usize
+    ensures { result ≡ place_told test }
+{
+    match test {
+        Ok(n) => n,
+        Err(i) => i,
+    }
+}
+
+// Steps 11 to 14: the fault strikes before the test's answer is looked at.
 pub(crate) fn index_read_conflict(l: &Letters, s: &Store, x: &Tx) -> Result<(), Stop>
     ensures { (S : Store)
         → Lends S s.now.stamps s.now.heads s.now.locked s.now.owner s.now.active s.now.xmin s.now.xmax
         → (stop_place result ≡ gate_from index_reads_failed (hits (letter_in l.now) 11 F ∷ index_read_conflict S x.now ∷ []))
         × Told S x.now result }
 {
-    stop_if(l.strikes(11, b'F'), Gate::IndexReadsFailed)?;
-    match conflicts::index_read_conflict(s, x) {
-        None => Ok(()),
-        Some(i) => Err(Stop {
-            gate: Gate::IndexReadsConflict,
-            cause: Cause::IndexReadAt(i),
-        }),
-    }
+    let test = conflicts::index_read_conflict(s, x);
+    stop_tested(
+        l.strikes(11, b'F'),
+        Gate::IndexReadsFailed,
+        test.is_err(),
+        Gate::IndexReadsConflict,
+        Cause::IndexReadAt(place_told(test)),
+    )
 }
 
 pub(crate) fn has_row_lock_conflict(l: &Letters, s: &Store, x: &Tx) -> Result<(), Stop>
@@ -120,14 +130,14 @@ pub(crate) fn has_row_lock_conflict(l: &Letters, s: &Store, x: &Tx) -> Result<()
         → (stop_place result ≡ gate_from row_locks_failed (hits (letter_in l.now) 12 F ∷ row_lock_conflict S x.now ∷ []))
         × Told S x.now result }
 {
-    stop_if(l.strikes(12, b'F'), Gate::RowLocksFailed)?;
-    match conflicts::has_row_lock_conflict(s, x) {
-        None => Ok(()),
-        Some(i) => Err(Stop {
-            gate: Gate::RowLocksConflict,
-            cause: Cause::RowLockAt(i),
-        }),
-    }
+    let test = conflicts::has_row_lock_conflict(s, x);
+    stop_tested(
+        l.strikes(12, b'F'),
+        Gate::RowLocksFailed,
+        test.is_err(),
+        Gate::RowLocksConflict,
+        Cause::RowLockAt(place_told(test)),
+    )
 }
 
 pub(crate) fn has_serialization_conflict(l: &Letters, s: &Store, x: &Tx) -> Result<(), Stop>
@@ -136,14 +146,14 @@ pub(crate) fn has_serialization_conflict(l: &Letters, s: &Store, x: &Tx) -> Resu
         → (stop_place result ≡ gate_from serialization_failed (hits (letter_in l.now) 13 F ∷ serialization_conflict S x.now ∷ []))
         × Told S x.now result }
 {
-    stop_if(l.strikes(13, b'F'), Gate::SerializationFailed)?;
-    match conflicts::has_serialization_conflict(s, x) {
-        None => Ok(()),
-        Some(i) => Err(Stop {
-            gate: Gate::SerializationConflict,
-            cause: Cause::SerializationAt(i),
-        }),
-    }
+    let test = conflicts::has_serialization_conflict(s, x);
+    stop_tested(
+        l.strikes(13, b'F'),
+        Gate::SerializationFailed,
+        test.is_err(),
+        Gate::SerializationConflict,
+        Cause::SerializationAt(place_told(test)),
+    )
 }
 
 pub(crate) fn has_write_base_conflict(l: &Letters, s: &Store, x: &Tx) -> Result<(), Stop>
@@ -152,14 +162,14 @@ pub(crate) fn has_write_base_conflict(l: &Letters, s: &Store, x: &Tx) -> Result<
         → (stop_place result ≡ gate_from write_base_failed (hits (letter_in l.now) 14 F ∷ write_base_conflict S x.now ∷ []))
         × Told S x.now result }
 {
-    stop_if(l.strikes(14, b'F'), Gate::WriteBaseFailed)?;
-    match conflicts::has_write_base_conflict(s, x) {
-        None => Ok(()),
-        Some(i) => Err(Stop {
-            gate: Gate::WriteBaseConflict,
-            cause: Cause::WriteBaseAt(i),
-        }),
-    }
+    let test = conflicts::has_write_base_conflict(s, x);
+    stop_tested(
+        l.strikes(14, b'F'),
+        Gate::WriteBaseFailed,
+        test.is_err(),
+        Gate::WriteBaseConflict,
+        Cause::WriteBaseAt(place_told(test)),
+    )
 }
 
 // Step 15.

@@ -3,13 +3,13 @@
 ghost use Rattle.std.specs.Prelude.{◌≡◌, [], ◌∷◌};
 ghost use Rattle.rules.specs.Types.{BusyGuard};
 ghost use Rattle.steps.specs.Places.{place_of, end_place};
-ghost use Rattle.steps.specs.Ended.{stop_place};
+ghost use Rattle.steps.specs.Ended.{stop_place, two_gates};
 ghost use Rattle.steps.specs.Stops.{gate_from};
 
 use super::gate::Gate;
 use records::Cause;
 
-// Where a run ends: its gate, and the cause that a 7 gives there.
+// Where a run ends: its gate, and the cause there, which a 7 names.
 #[derive(Clone, Copy)]
 pub struct Stop {
     pub gate: Gate,
@@ -33,6 +33,32 @@ pub(crate) fn stop_if(struck: bool, gate: Gate) -> Result<(), Gate>
     ensures { end_place result ≡ gate_from (place_of gate) (struck ∷ []) }
 {
     if struck { Err(gate) } else { Ok(()) }
+}
+
+// A test's fault ends the run before its answer is looked at; the test was made, so either gate tells the cause.
+pub(crate) fn stop_tested(
+    struck: bool,
+    failed: Gate,
+    yes: bool,
+    conflict: Gate,
+    cause: Cause,
+) -> Result<(), Stop>
+    ensures { result ≡ two_gates struck failed yes conflict cause }
+{
+    if struck {
+        return Err(Stop {
+            gate: failed,
+            cause,
+        });
+    }
+    if yes {
+        Err(Stop {
+            gate: conflict,
+            cause,
+        })
+    } else {
+        Ok(())
+    }
 }
 
 // The place of a run's end among the gates; a clean run's is past them.

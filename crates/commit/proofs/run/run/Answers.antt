@@ -4,6 +4,7 @@ use Rattle.records.specs.Limits.{write_limit}
 use lib.Dec.{ltb}
 use Rattle.fields.proofs.Lengths.{sized, writes_long}
 use Rattle.steps.specs.Stops.{gate_of_law}
+use Rattle.steps.specs.Ended.{Told}
 use Rattle.commit.specs.Planning.{lends_own, laid_count, laid_taken, finals_long, plan_told, run_pushed}
 use Rattle.commit.specs.Run.{run_cut, run_whole}
 use Rattle.commit.proofs.run.run.Goals as goal
@@ -28,6 +29,7 @@ returns-then-m-n c =
     run_cut S x a.logged a.plan a.cut held c.len-n.ensures.count c.stop_at-m.ensures c.apply-t.ensures c.cut_answer.ensures c.if-m-n.true
 
 pub returns : goal.returns
+unfolding Told
 returns c =
     let a = c.args in
     let S = a.s in
@@ -45,4 +47,4 @@ returns c =
     let held = run_pushed S x a.logged a.plan z ok planned struck stopped
     (λ h. rw (← c.place.ensures) (rw c.new-j.ensures at (c.push_run.ensures S x a.logged a.plan h writes))) in
     run_whole S x a.logged a.plan a.cut held c.len-n.ensures.count c.stop_at-m.ensures c.apply-t.ensures
-    _ stopped found.1 _ told (c.whole_answer.ensures laid) c.if-m-n.false
+    _ stopped (λ seven. found.1) _ told (c.whole_answer.ensures laid) c.if-m-n.false

@@ -14,7 +14,7 @@ returns-in_err-opening c = λ S d.
     let g = c.in_err-opening.field-0.0 in
     rw (passed_as_stop g c.from_residual.result c.from_residual.ensures.1) (
       first_opening _ _ _ _ _ _ _ _ _ _ c.in_err-opening.ensures (place_below g),
-      λ seven. cause_busy S c.args.x.now _ _ _ c.in_err-opening.ensures refl,
+      cause_busy S c.args.x.now _ _ _ c.in_err-opening.ensures refl,
     )
 
 pub returns-in_err-guarding : goal.returns-in_err-guarding
@@ -23,7 +23,7 @@ returns-in_err-guarding c = λ S d.
     let g = c.in_err-guarding.field-0.0 in
     rw (passed_as_stop g c.from_residual-in_err-guarding.result c.from_residual-in_err-guarding.ensures.1) (
       first_guarding _ _ _ _ _ _ _ _ _ _ c.in_ok-opening.ensures (omega arith) _ c.in_err-guarding.ensures (place_below g),
-      λ seven. cause_busy S c.args.x.now _ _ _ c.in_err-guarding.ensures refl,
+      cause_busy S c.args.x.now _ _ _ c.in_err-guarding.ensures refl,
     )
 
 pub returns-in_err-testing : goal.returns-in_err-testing
@@ -43,7 +43,7 @@ returns-in_err-closing c = λ S d.
     rw (passed_as_stop g c.from_residual-in_err-closing.result c.from_residual-in_err-closing.ensures.1) (
       first_closing _ _ _ _ _ _ _ _ _ _ c.in_ok-opening.ensures (omega arith) _ c.in_ok-guarding.ensures (omega arith) _
           (c.in_ok-testing.ensures S d).0 (omega arith) _ c.in_err-closing.ensures,
-      λ seven. cause_busy S c.args.x.now _ _ _ c.in_err-closing.ensures refl,
+      cause_busy S c.args.x.now _ _ _ c.in_err-closing.ensures refl,
     )
 
 pub returns : goal.returns

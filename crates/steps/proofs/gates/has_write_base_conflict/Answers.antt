@@ -1,38 +1,19 @@
--- `has_write_base_conflict` meets its contract: its fault is struck, or the test decides, with its cause.
-use Rattle.std.proofs.Common.{refl, sym, ap, ◌∙◌, arith, rules}
-use Rattle.rules.specs.Faults.{F}
+-- `has_write_base_conflict` meets its contract: its fault is struck, or the test decides; either way with the test's cause.
+use Rattle.std.proofs.Common.{refl, ap, ◌∙◌}
 use Rattle.rules.specs.Types.{WriteBaseAt}
 use Rattle.rules.specs.Tests.{write_base_conflict, write_base_place}
-use Rattle.commit_tests.specs.Striking.{letter_in}
-use Rattle.commit_tests.specs.Conflicts.{some_tested}
+use Rattle.commit_tests.specs.Conflicts.{tested_yes, tested_place}
 use Rattle.steps.specs.GateTable.{row_at}
 use Rattle.steps.specs.Causes.{cause_after}
 use Rattle.steps.specs.Places.{place_of}
-use Rattle.steps.specs.Ended.{stop_place, Told}
-use Rattle.steps.specs.Stops.{hits}
-use Rattle.steps.specs.Chained.{fault_stops, no_conflict, conflict_stops}
+use Rattle.steps.specs.Chained.{tested_ends}
 use Rattle.steps.proofs.gates.has_write_base_conflict.Goals as goal
 
-pub returns-in_err-stop_if : goal.returns-in_err-stop_if
-unfolding place_of row_at
-returns-in_err-stop_if c = λ S d.
+pub returns : goal.returns
+unfolding place_of row_at cause_after
+returns c = λ S d.
     let x = c.args.x.now in
-    fault_stops S x 18 (hits (letter_in c.args.l.now) 14 F) (write_base_conflict S x) c.in_err-stop_if.field-0.0 c.from_residual.result
-    c.from_residual.ensures.1
-    (search rules) refl
-
-pub returns-in-None : goal.returns-in-None
-unfolding place_of
-returns-in-None c = λ S d.
-    let x = c.args.x.now in
-    no_conflict S x 18 (hits (letter_in c.args.l.now) 14 F) (write_base_conflict S x) (write_base_place S x) (search rules) (omega arith)
-    (sym c.in-None.is ∙ c.has_write_base_conflict.ensures S d.heads)
-
-pub returns-in-Some : goal.returns-in-Some
-unfolding place_of stop_place Told row_at cause_after
-returns-in-Some c = λ S d.
-    let x = c.args.x.now in
-    let said = sym c.in-Some.is ∙ c.has_write_base_conflict.ensures S d.heads in (
-      conflict_stops 18 (hits (letter_in c.args.l.now) 14 F) (write_base_conflict S x) (write_base_place S x) (search rules) (omega arith) said,
-      λ seven. ap WriteBaseAt (some_tested (write_base_conflict S x) (write_base_place S x) said).1,
-    )
+    let said = c.has_write_base_conflict-test.ensures S d.heads in
+    let told = ap WriteBaseAt (c.place_told.ensures ∙ tested_place (write_base_conflict S x) (write_base_place S x) said) in
+    let yes = c.is_err.ensures.value ∙ tested_yes (write_base_conflict S x) (write_base_place S x) said in
+    tested_ends S x 18 _ _ _ refl refl told told _ _ _ _ c.strikes.ensures yes c.stop_tested.ensures
