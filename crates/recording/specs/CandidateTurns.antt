@@ -1,12 +1,12 @@
 -- The candidates of a lookup, from the fields of the store that it reads, one posting and one own write at a time.
 use Rattle.std.specs.Prelude.{◌≡◌, refl, Bool, true, List, [], ◌∷◌, ◌++◌, map, ℕ, ◌*◌, ◌-◌, ◌≤◌, min, length, take, drop, set, ltb}
-use Rattle.std.proofs.Common.{sym, ap, ◌∙◌, add-zero, arith, lt-ltb}
+use Rattle.std.proofs.Common.{sym, ap, ◌∙◌, add-zero, arith, eq-eqb, ne_eqb, lt-ltb}
 use Rattle.std.proofs.Math.Seq.{set_out}
 use Rattle.records.specs.Limits.{rows, posting_limit}
 use Rattle.rules.specs.Lists.{all, rising, in_order}
 use Rattle.basic_laws.specs.Cases.{and_true, every_cons}
 use Rattle.rules.specs.Types.{Store, Tx, Write}
-use Rattle.rules.specs.Store.{row_of, postings_of}
+use Rattle.rules.specs.Store.{key_of, row_of, postings_of}
 use Rattle.rules.specs.Transaction.{writes_of}
 use Rattle.rules.specs.Chains.{walk}
 use Rattle.rules.specs.Fit.{fit, write_fit}
@@ -52,6 +52,14 @@ pub walk_starts : (postings : List ℕ) (count n k i : ℕ) → length postings 
 unfolding key_walk
 walk_starts postings count n k i long e f =
     rw (between_is postings i n, f, take_within count n postings (omega arith), add-zero (k * rows), array_same posting_limit 0 postings long)
+
+-- one posting more: marked if it is of the key, and else the end
+module _ (k c : ℕ) (l rest : List ℕ) (m : List Bool) (next : l ≡ c ∷ rest) where
+  pub posting_of : key_of c ≡ k → mark_all (rows_in_front k l) m ≡ mark_all (rows_in_front k rest) (set m (row_of c) true)
+  posting_of e = rw (next, eq-eqb (key_of c) k e)
+
+  pub posting_not : (key_of c ≡ k → ⊥) → mark_all (rows_in_front k l) m ≡ m
+  posting_not n = rw (next, ne_eqb (key_of c) k n)
 
 -- one own write more: marked if its row has a place
 module _ (w : Write) (l rest : List Write) (m : List Bool) (next : l ≡ w ∷ rest) where

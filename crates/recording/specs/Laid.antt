@@ -62,6 +62,9 @@ module _ {A : Type 0} (n : ℕ) (l : Laid A n) (z : A) (m : List A) (holds : l �
   pub laid_back : length m ≤ n → take (min l.count n) l.at ≡ m
   laid_back h = rw (counted, held) (take_pad n z m ∙ take_all n m h)
 
+  pub counted_back : length m ≤ n → take l.count l.at ≡ m
+  counted_back h = let k : min l.count n ≡ l.count = omega (arith, counted) in rw k at (laid_back h)
+
   -- one element more: where the array has a place for it, and where it has none
   pub push_room : (e : A) → l.count < n → record { at = set l.at l.count e; count = l.count + 1 } ≡ laid n z (m ++ e ∷ [])
   unfolding laid

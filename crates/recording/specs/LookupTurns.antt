@@ -1,13 +1,14 @@
 -- What a lookup records and finds, from the fields of the store that it reads, one candidate at a time.
-use Rattle.std.specs.Prelude.{◌≡◌, refl, Bool, List, [], ◌∷◌, ℕ, ◌≤◌, length}
-use Rattle.std.proofs.Common.{arith}
+use Rattle.std.specs.Prelude.{◌≡◌, refl, Bool, List, [], ◌∷◌, ℕ, ◌≤◌, length, take}
+use Rattle.std.proofs.Common.{◌∙◌, arith}
+use Rattle.records.specs.Limits.{read_limit}
 use Rattle.rules.specs.Lists.{those}
 use Rattle.rules.specs.Types.{Store, Tx, ReadRecord}
 use Rattle.rules.specs.Store.{carries}
 use Rattle.rules.specs.Calls.{record_reads, read_ptr, matching, candidates}
 use Rattle.visibility.specs.Found.{read_ptr_of}
 use Rattle.recording.specs.ReadList.{record_read_of, record_read_law}
-use Rattle.recording.specs.Record.{record_longer}
+use Rattle.recording.specs.Record.{record_longer, record_first}
 
 module _ (heads next xmin : List ℕ) (x : Tx) where
   unfoldable pub record_reads_of : List ℕ → List ReadRecord → List ReadRecord
@@ -35,6 +36,15 @@ unfolding record_reads_of
 records_longer heads next xmin x [] l = omega arith
 records_longer heads next xmin x (r ∷ rs) l =
     let m = record_read_of heads next xmin x r l in omega (arith, record_longer heads next xmin x r l, records_longer heads next xmin x rs m)
+
+-- where every place is taken, the first reads stay
+pub records_first : (heads next xmin : List ℕ) (x : Tx) (rs : List ℕ) (l : List ReadRecord) → read_limit ≤ length l
+    → take read_limit (record_reads_of heads next xmin x rs l) ≡ take read_limit l
+unfolding record_reads_of
+records_first heads next xmin x [] l h = refl
+records_first heads next xmin x (r ∷ rs) l h =
+    let m = record_read_of heads next xmin x r l in
+    records_first heads next xmin x rs m (omega (arith, h, record_longer heads next xmin x r l)) ∙ record_first heads next xmin x r l h
 
 -- one row more recorded, or none left
 module _ (heads next xmin : List ℕ) (x : Tx) (rs : List ℕ) (l : List ReadRecord) where

@@ -51,10 +51,11 @@ impl<T: Copy, const N: usize> Laid<T, N> {
         }
     }
 
-    // The elements, where each has its place.
+    // The elements that have a place: all, where each has.
     pub(crate) fn as_slice(&self) -> &[T]
-        ensures { (z : T) (m : List T) → self.now ≡ laid N z m → length m ≤ N → result.now ≡ m }
+        ensures first { result.now ≡ take self.now.count self.now.at }
+        ensures whole { (z : T) (m : List T) → self.now ≡ laid N z m → length m ≤ N → result.now ≡ m }
     {
-        &self.at[..self.count.min(N)]
+        first_of(&self.at, self.count)
     }
 }

@@ -5,7 +5,7 @@ ghost use Rattle.rules.specs.Store.{carries};
 ghost use Rattle.rules.specs.Transaction.{reads_of};
 ghost use Rattle.fields.specs.Lent.{at_rows, at_places, flags_at_places, flags_at_rows};
 ghost use Rattle.recording.specs.MarkedRows.{marked_rows};
-ghost use Rattle.recording.specs.ReadList.{reads_within};
+ghost use Rattle.recording.specs.ReadList.{reads_split};
 ghost use Rattle.recording.specs.FoundRows.{row_list};
 ghost use Rattle.recording.specs.LookupTurns.{record_reads_of, matching_of};
 
@@ -18,9 +18,9 @@ use visibility::found::read_ptr;
 // Rows in an array.
 pub type RowList = Laid<RowId, { RowId::ROWS }>;
 
-// The transaction's reads with those of the marked rows recorded, rising; none where they are more than it has places for.
-pub fn record_marked(s: &Store, marks: &[bool; RowId::ROWS], x: &Tx) -> Option<ReadList>
-    ensures { result ≡ reads_within (record_reads_of (at_rows s.now.heads) (at_places s.now.next) (at_places s.now.xmin) x.now
+// The transaction's reads with those of the marked rows recorded, rising; where they are more than it has places for, the first of them as an error.
+pub fn record_marked(s: &Store, marks: &[bool; RowId::ROWS], x: &Tx) -> Result<ReadList, ReadList>
+    ensures { result ≡ reads_split (record_reads_of (at_rows s.now.heads) (at_places s.now.next) (at_places s.now.xmin) x.now
         (marked_rows (flags_at_rows marks.now)) (reads_of x.now)) }
 {
     let mut l = reads_of(x);
@@ -29,7 +29,7 @@ pub fn record_marked(s: &Store, marks: &[bool; RowId::ROWS], x: &Tx) -> Option<R
             l = record_read(s, x, RowId(i), l)?;
         }
     }
-    Some(l)
+    Ok(l)
 }
 
 // The value of a slot is key k.

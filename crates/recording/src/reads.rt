@@ -1,11 +1,11 @@
 // The reads of a transaction, with more recorded.
 
-ghost use Rattle.std.specs.Prelude.{◌≡◌, List, Some};
+ghost use Rattle.std.specs.Prelude.{◌≡◌, List, Ok};
 ghost use Rattle.rules.specs.Transaction.{reads_of};
 ghost use Rattle.rules.specs.Types.{ReadRecord};
 ghost use Rattle.rules.specs.Calls.{same_read};
 ghost use Rattle.fields.specs.Lent.{at_rows, at_places};
-ghost use Rattle.recording.specs.ReadList.{reads_within, record_read_of};
+ghost use Rattle.recording.specs.ReadList.{reads_split, first_reads, held_reads, record_read_of};
 
 use super::laid::Laid;
 use fields::lent::txid_at;
@@ -18,7 +18,7 @@ pub type ReadList = Laid<ReadRecord, { Tx::READS }>;
 
 // The transaction's reads.
 pub(crate) fn reads_of(x: &Tx) -> ReadList
-    ensures { Some result ≡ reads_within (reads_of x.now) }
+    ensures { Ok result ≡ reads_split (reads_of x.now) }
 {
     Laid::first(&x.reads, x.read_count, ReadRecord::NONE)
 }
@@ -30,33 +30,40 @@ fn same_read(e: &ReadRecord, r: RowId, p: SlotPtr) -> bool
     (p != SlotPtr::NULL || e.row == r) && e.ptr == p
 }
 
-// Records a found version's pointer and xmin, of an absent row pointer 0 and xmin 0 (place 0 has no other); own writes are not recorded. None where
-// there is no place for the read.
-pub(crate) fn record_read(s: &Store, x: &Tx, r: RowId, mut l: ReadList) -> Option<ReadList>
-    ensures { (m : List ReadRecord) → Some l ≡ reads_within m
-        → result ≡ reads_within (record_read_of (at_rows s.now.heads) (at_places s.now.next) (at_places s.now.xmin) x.now r.0 m) }
+// Records a found version's pointer and xmin, of an absent row pointer 0 and xmin 0 (place 0 has no other); own writes are not recorded. An error,
+// with the list as it was, where there is no place for the read.
+pub(crate) fn record_read(
+    s: &Store,
+    x: &Tx,
+    r: RowId,
+    mut l: ReadList,
+) -> Result<ReadList, ReadList>
+    ensures whole { (m : List ReadRecord) → Ok l ≡ reads_split m
+        → result ≡ reads_split (record_read_of (at_rows s.now.heads) (at_places s.now.next) (at_places s.now.xmin) x.now r.0 m) }
+    ensures first { (m : List ReadRecord) → l ≡ first_reads m
+        → held_reads result ≡ first_reads (record_read_of (at_rows s.now.heads) (at_places s.now.next) (at_places s.now.xmin) x.now r.0 m) }
 {
     if last_own(x, r).new != SlotPtr::NULL {
-        return Some(l);
+        return Ok(l);
     }
     let p = visible_version(s, x, r);
     if l.as_slice().iter().any(|e| same_read(e, r, p)) {
-        return Some(l);
+        return Ok(l);
     }
     if Tx::READS <= l.count {
-        return None;
+        return Err(l);
     }
     l.push(ReadRecord {
         row: r,
         ptr: p,
         xmin: txid_at(&s.xmin, p),
     });
-    Some(l)
+    Ok(l)
 }
 
-// The transaction's reads with that of the row recorded; none where there is no place for it.
-pub fn with_read(s: &Store, x: &Tx, r: RowId) -> Option<ReadList>
-    ensures { result ≡ reads_within
+// The transaction's reads with that of the row recorded; where there is no place for it, those before it as an error.
+pub fn with_read(s: &Store, x: &Tx, r: RowId) -> Result<ReadList, ReadList>
+    ensures { result ≡ reads_split
         (record_read_of (at_rows s.now.heads) (at_places s.now.next) (at_places s.now.xmin) x.now r.0 (reads_of x.now)) }
 {
     record_read(s, x, r, reads_of(x))

@@ -1,7 +1,13 @@
 -- `reads_of` meets its contract: the first places hold them all.
+use native.Mathlib.Omega.{arith}
 use Rattle.records.specs.Limits.{read_limit}
-use Rattle.recording.specs.Laid.{counted_within}
+use Rattle.records.specs.Zero.{no_read}
+use Rattle.recording.specs.Laid.{counted}
+use Rattle.recording.specs.ReadList.{all_split}
 use Rattle.recording.proofs.reads.reads_of.Goals as goal
 
 pub returns : goal.returns
-returns c = counted_within read_limit _ _ _ c.first.ensures.first c.first.ensures.few
+returns c =
+    let held = c.first.ensures.first in
+    let count = counted read_limit c.first.result no_read _ held in
+    all_split c.first.result _ held (omega (arith, c.first.ensures.few))
