@@ -10,3 +10,5 @@ pub mod AbortAnswer
 pub mod ReadAnswer
 pub mod LookupAnswer
 pub mod Passed
+-- Where their pointers lie.
+pub mod Placed

@@ -61,7 +61,7 @@ pub fn lookup(s: Store, x: Tx, k: u32) -> Found
         return none_found(why, x);
     }
     let marks = candidates(&s, &x, k);
-    let Some(l) = record_marked(&s, &marks, &x) else {
+    let Ok(l) = record_marked(&s, &marks, &x) else {
         return none_found(Refusal::ReadsFull(Fate::Open), x);
     };
     let found = matching(&s, &marks, &x, k);

@@ -27,7 +27,7 @@ fn read_refusal(s: &Store, x: &Tx, r: RowId, over: bool) -> Result<(), Refusal>
 pub fn read(s: Store, x: Tx, r: RowId) -> Seen
     ensures { result ≡ read s x r.0 }
 {
-    let reads = with_read(&s, &x, r);
+    let reads = with_read(&s, &x, r).ok();
     if let Err(why) = read_refusal(&s, &x, r, reads.is_none()) {
         return Seen {
             refusal: why,
