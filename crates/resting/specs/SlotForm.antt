@@ -46,6 +46,10 @@ slot_form S i =
     ∷ (is_zero (get_or S.xmin i 0) || leb (get_or S.key i 0) last_minute)
     ∷ []
 
+-- key 0 is a minute
+pub zero_minute : (k : ℕ) → is_zero k ≡ (is_zero k && leb k last_minute)
+zero_minute k = by (eqb k 0) (λ e. rw (eqb-true k 0 e)) (λ e. rw e)
+
 -- a free slot's tests, one after the other
 in_row : (a b h l o k : Bool) → (((((a && b) && not h) && not l) && o) && k) ≡ (a && (b && (not h && (not l && (o && ((h || k) && (true && true)))))))
 in_row true true false false true k = sym (and-true k)
@@ -64,8 +68,7 @@ module _ (S : Store) (i : ℕ) where
   pub form_absent : (get_or S.xmin i 0 ≡ 0 → ⊥) → get_or S.has i false ≡ false → is_zero (get_or S.key i 0) ≡ every (slot_form S i)
   unfolding every
   form_absent n h =
-      rw (nonzero_yes n, zero_no n, h, and-true (leb (get_or S.key i 0) last_minute))
-      (by (eqb (get_or S.key i 0) 0) (λ e. rw (eqb-true (get_or S.key i 0) 0 e)) (λ e. rw e))
+      rw (nonzero_yes n, zero_no n, h, and-true (leb (get_or S.key i 0) last_minute)) (zero_minute (get_or S.key i 0))
 
   pub form_free : get_or S.xmin i 0 ≡ 0
       → (((((is_zero (get_or S.xmax i 0) && is_zero (get_or S.next i 0)) && not (get_or S.has i false)) && not (get_or S.locked i false))

@@ -17,12 +17,13 @@ pub(crate) fn repairable_of(s: &Store, seen: &mut [u8; SlotPtr::PLACES]) -> bool
     ensures marks { seen.new ≡ (walk (at_rows s.now.heads) (at_places s.now.next)).seen }
 {
     let apart = walk_all(&s.heads, &s.next, seen);
-    1 <= s.clock
+    // the tests that cost next to nothing first, so that a store which fails them is refused at once
+    apart
+        && 1 <= s.clock
+        && s.doomed < s.clock
         && slots_in_form(s)
         && active_in_form(s)
         && xmins_below(s)
-        && s.doomed < s.clock
-        && apart
         && used_if_marked(s, seen)
         && chains_ok(s)
         && off_slots_ok(s, seen)

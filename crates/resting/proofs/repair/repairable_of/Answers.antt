@@ -1,9 +1,8 @@
--- `repairable_of` meets its contract: its tests are the definition's, in their order.
+-- `repairable_of` meets its contract: its tests are the definition's, the cheap ones first.
 use mathlib.Core.Path.{◌≡◌, ◌∙◌}
 use mathlib.Core.Bool.{◌&&◌}
 use lib.Dec.{leb, ltb}
 use native.Mathlib.Omega.{arith}
-use borrow.Author.Tests.{le-leb, lt-leb}
 use Rattle.rules.specs.Lists.{all, each_or, is_zero, nonzero}
 use Rattle.rules.specs.Store.{slots_in_form, active_in_form}
 use Rattle.resting.specs.VersionTurns.{chain_at}
@@ -17,31 +16,31 @@ pub returns-then-chains_ok-clause-answer : goal.returns-then-chains_ok-clause-an
 returns-then-chains_ok-clause-answer c =
     let S = c.args.s.now in
     let seen = c.walk_all-apart.new.seen in
-    let first : c.if-s-ge1.value ≡ (leb 1 S.clock && slots_in_form S) = elim c.if-s-ge1.branch [
-      | then-s-ge1 w ↦ rw (le-leb 1 S.clock w.if-s-ge1.true) (w.value-is ∙ w.slots_in_form.ensures)
-      | else-s-ge1 w ↦ rw (lt-leb 1 S.clock w.if-s-ge1.false) (w.value-is ∙ lt-leb 1 S.clock w.if-s-ge1.false)
+    let first : c.if-apart.value ≡ (c.walk_all-apart.result && leb 1 S.clock) = elim c.if-apart.branch [
+      | then-apart w ↦ rw w.if-apart.true w.value-is
+      | else-apart w ↦ rw w.if-apart.false (w.value-is ∙ w.if-apart.false)
     ] in
-    let second : c.if-slots_in_form.value ≡ (c.if-s-ge1.value && active_in_form S.active S.clock) = elim c.if-slots_in_form.branch [
+    let second : c.if-s-ge1.value ≡ (c.if-apart.value && ltb S.doomed S.clock) = elim c.if-s-ge1.branch [
+      | then-s-ge1 w ↦ rw w.if-s-ge1.true w.value-is
+      | else-s-ge1 w ↦ rw w.if-s-ge1.false (w.value-is ∙ w.if-s-ge1.false)
+    ] in
+    let third : c.if-s.value ≡ (c.if-s-ge1.value && slots_in_form S) = elim c.if-s.branch [
+      | then-s w ↦ rw w.if-s.true (w.value-is ∙ w.slots_in_form.ensures)
+      | else-s w ↦ rw w.if-s.false (w.value-is ∙ w.if-s.false)
+    ] in
+    let fourth : c.if-slots_in_form.value ≡ (c.if-s.value && active_in_form S.active S.clock) = elim c.if-slots_in_form.branch [
       | then-slots_in_form w ↦ rw w.if-slots_in_form.true (w.value-is ∙ w.active_in_form.ensures)
       | else-slots_in_form w ↦ rw w.if-slots_in_form.false (w.value-is ∙ w.if-slots_in_form.false)
     ] in
-    let third : c.if-active_in_form.value ≡ (c.if-slots_in_form.value && all (λ t. ltb t S.clock) S.xmin) = elim c.if-active_in_form.branch [
+    let fifth : c.if-active_in_form.value ≡ (c.if-slots_in_form.value && all (λ t. ltb t S.clock) S.xmin) = elim c.if-active_in_form.branch [
       | then-active_in_form w ↦ rw w.if-active_in_form.true (w.value-is ∙ w.xmins_below.ensures)
       | else-active_in_form w ↦ rw w.if-active_in_form.false (w.value-is ∙ w.if-active_in_form.false)
     ] in
-    let fourth : c.if-xmins_below.value ≡ (c.if-active_in_form.value && ltb S.doomed S.clock) = elim c.if-xmins_below.branch [
-      | then-xmins_below w ↦ rw w.if-xmins_below.true w.value-is
+    let sixth : c.if-xmins_below.value ≡ (c.if-active_in_form.value && each_or is_zero nonzero seen S.xmin) = elim c.if-xmins_below.branch [
+      | then-xmins_below w ↦ rw w.if-xmins_below.true (w.value-is ∙ w.used_if_marked.ensures)
       | else-xmins_below w ↦ rw w.if-xmins_below.false (w.value-is ∙ w.if-xmins_below.false)
     ] in
-    let fifth : c.if-s.value ≡ (c.if-xmins_below.value && c.walk_all-apart.result) = elim c.if-s.branch [
-      | then-s w ↦ rw w.if-s.true w.value-is
-      | else-s w ↦ rw w.if-s.false (w.value-is ∙ w.if-s.false)
-    ] in
-    let sixth : c.if-apart.value ≡ (c.if-s.value && each_or is_zero nonzero seen S.xmin) = elim c.if-apart.branch [
-      | then-apart w ↦ rw w.if-apart.true (w.value-is ∙ w.used_if_marked.ensures)
-      | else-apart w ↦ rw w.if-apart.false (w.value-is ∙ w.if-apart.false)
-    ] in
-    let seventh : c.if-used_if_marked.value ≡ (c.if-apart.value && all (chain_at S) S.heads) = elim c.if-used_if_marked.branch [
+    let seventh : c.if-used_if_marked.value ≡ (c.if-xmins_below.value && all (chain_at S) S.heads) = elim c.if-used_if_marked.branch [
       | then-used_if_marked w ↦ rw w.if-used_if_marked.true (w.value-is ∙ w.chains_ok.ensures)
       | else-used_if_marked w ↦ rw w.if-used_if_marked.false (w.value-is ∙ w.if-used_if_marked.false)
     ] in
@@ -52,31 +51,31 @@ pub returns-else-chains_ok-clause-answer : goal.returns-else-chains_ok-clause-an
 returns-else-chains_ok-clause-answer c =
     let S = c.args.s.now in
     let seen = c.walk_all-apart.new.seen in
-    let first : c.if-s-ge1.value ≡ (leb 1 S.clock && slots_in_form S) = elim c.if-s-ge1.branch [
-      | then-s-ge1 w ↦ rw (le-leb 1 S.clock w.if-s-ge1.true) (w.value-is ∙ w.slots_in_form.ensures)
-      | else-s-ge1 w ↦ rw (lt-leb 1 S.clock w.if-s-ge1.false) (w.value-is ∙ lt-leb 1 S.clock w.if-s-ge1.false)
+    let first : c.if-apart.value ≡ (c.walk_all-apart.result && leb 1 S.clock) = elim c.if-apart.branch [
+      | then-apart w ↦ rw w.if-apart.true w.value-is
+      | else-apart w ↦ rw w.if-apart.false (w.value-is ∙ w.if-apart.false)
     ] in
-    let second : c.if-slots_in_form.value ≡ (c.if-s-ge1.value && active_in_form S.active S.clock) = elim c.if-slots_in_form.branch [
+    let second : c.if-s-ge1.value ≡ (c.if-apart.value && ltb S.doomed S.clock) = elim c.if-s-ge1.branch [
+      | then-s-ge1 w ↦ rw w.if-s-ge1.true w.value-is
+      | else-s-ge1 w ↦ rw w.if-s-ge1.false (w.value-is ∙ w.if-s-ge1.false)
+    ] in
+    let third : c.if-s.value ≡ (c.if-s-ge1.value && slots_in_form S) = elim c.if-s.branch [
+      | then-s w ↦ rw w.if-s.true (w.value-is ∙ w.slots_in_form.ensures)
+      | else-s w ↦ rw w.if-s.false (w.value-is ∙ w.if-s.false)
+    ] in
+    let fourth : c.if-slots_in_form.value ≡ (c.if-s.value && active_in_form S.active S.clock) = elim c.if-slots_in_form.branch [
       | then-slots_in_form w ↦ rw w.if-slots_in_form.true (w.value-is ∙ w.active_in_form.ensures)
       | else-slots_in_form w ↦ rw w.if-slots_in_form.false (w.value-is ∙ w.if-slots_in_form.false)
     ] in
-    let third : c.if-active_in_form.value ≡ (c.if-slots_in_form.value && all (λ t. ltb t S.clock) S.xmin) = elim c.if-active_in_form.branch [
+    let fifth : c.if-active_in_form.value ≡ (c.if-slots_in_form.value && all (λ t. ltb t S.clock) S.xmin) = elim c.if-active_in_form.branch [
       | then-active_in_form w ↦ rw w.if-active_in_form.true (w.value-is ∙ w.xmins_below.ensures)
       | else-active_in_form w ↦ rw w.if-active_in_form.false (w.value-is ∙ w.if-active_in_form.false)
     ] in
-    let fourth : c.if-xmins_below.value ≡ (c.if-active_in_form.value && ltb S.doomed S.clock) = elim c.if-xmins_below.branch [
-      | then-xmins_below w ↦ rw w.if-xmins_below.true w.value-is
+    let sixth : c.if-xmins_below.value ≡ (c.if-active_in_form.value && each_or is_zero nonzero seen S.xmin) = elim c.if-xmins_below.branch [
+      | then-xmins_below w ↦ rw w.if-xmins_below.true (w.value-is ∙ w.used_if_marked.ensures)
       | else-xmins_below w ↦ rw w.if-xmins_below.false (w.value-is ∙ w.if-xmins_below.false)
     ] in
-    let fifth : c.if-s.value ≡ (c.if-xmins_below.value && c.walk_all-apart.result) = elim c.if-s.branch [
-      | then-s w ↦ rw w.if-s.true w.value-is
-      | else-s w ↦ rw w.if-s.false (w.value-is ∙ w.if-s.false)
-    ] in
-    let sixth : c.if-apart.value ≡ (c.if-s.value && each_or is_zero nonzero seen S.xmin) = elim c.if-apart.branch [
-      | then-apart w ↦ rw w.if-apart.true (w.value-is ∙ w.used_if_marked.ensures)
-      | else-apart w ↦ rw w.if-apart.false (w.value-is ∙ w.if-apart.false)
-    ] in
-    let seventh : c.if-used_if_marked.value ≡ (c.if-apart.value && all (chain_at S) S.heads) = elim c.if-used_if_marked.branch [
+    let seventh : c.if-used_if_marked.value ≡ (c.if-xmins_below.value && all (chain_at S) S.heads) = elim c.if-used_if_marked.branch [
       | then-used_if_marked w ↦ rw w.if-used_if_marked.true (w.value-is ∙ w.chains_ok.ensures)
       | else-used_if_marked w ↦ rw w.if-used_if_marked.false (w.value-is ∙ w.if-used_if_marked.false)
     ] in
