@@ -72,17 +72,26 @@ number_read [] h lo hi = absurd (omega arith)
 number_read (b ∷ []) h lo hi = rw (le-leb 48 b (omega arith), le-leb b 57 hi, lt-ltb (0 * 10 + (b - 48)) key_end (omega arith))
 number_read (b ∷ c ∷ s) h lo hi = digits_all 0 (b ∷ c ∷ s) (omega arith) ∙ simp (ne_eqb b 48 (λ e. omega arith), and_assoc)
 
-pub number_not : (s : Bytes) → is 48 s ≡ false → (0 < length s → 49 ≤ get_or s 0 0 → get_or s 0 0 ≤ 57 → ⊥) → None ≡ num_of s
+pub number_other : (s : Bytes) → is 48 s ≡ false → (0 < length s → 49 ≤ get_or s 0 0 → get_or s 0 0 ≤ 57 → ⊥) → None ≡ num_of s
 unfolding num_of
-number_not [] z n = refl
-number_not (b ∷ []) z n =
+number_other [] z n = refl
+number_other (b ∷ []) z n =
     by (is_digit b)
     (λ d. let r = digit b d in absurd (n (omega arith) (omega (arith, eqb-false b 48 z)) (omega arith)))
     (λ d. rw d)
-number_not (b ∷ c ∷ s) z n =
+number_other (b ∷ c ∷ s) z n =
     by (is_digit b)
     (λ d. let r = digit b d in by (eqb b 48) (λ e. rw e (simp and-false)) (λ e. absurd (n (omega arith) (omega (arith, eqb-false b 48 e)) (omega arith))))
     (λ d. rw d)
+
+-- an answer says whether the field is a number, and which
+pub number_is : (w : Bytes) {n : ℕ} → Some n ≡ num_of w → (is_number w ≡ true) × (value_of 0 w ≡ n)
+unfolding num_of
+number_is w e = by (is_number w) (λ b. (b, cc)) (λ b. (cc, cc))
+
+pub number_not : (w : Bytes) → None ≡ num_of w → is_number w ≡ false
+unfolding num_of
+number_not w e = by (is_number w) (λ b. cc) (λ b. b)
 
 -- a number is a place below the 16th
 pub place_in : (w : Bytes) {n : ℕ} → num_of w ≡ Some n → then_some (ltb n place_limit) n ≡ place_of w
