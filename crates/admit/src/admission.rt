@@ -15,7 +15,10 @@ use resting::rest::resting_marked;
 pub fn is_done(why: Refusal) -> bool
     ensures { result ≡ is_done why }
 {
-    matches!(why, Refusal::Done)
+    match why {
+        Refusal::Done => true,
+        _ => false,
+    }
 }
 
 // Refuses where the test holds.
