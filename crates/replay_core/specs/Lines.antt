@@ -1,10 +1,10 @@
 -- What each kind of line answers, from what its call answers.
-use Rattle.std.specs.Prelude.{◌≡◌, ℕ, Bool, true, false, ◌≢◌, refl}
+use Rattle.std.specs.Prelude.{◌≡◌, ℕ, Bool, true, false, refl}
 use Rattle.std.proofs.Common.{sym, ◌∙◌}
 use Rattle.std.proofs.Math.Path.{ap}
+use borrow.Author.Tests.{eqb-true}
 use Rattle.records.specs.Zero.{no_faults}
-use Rattle.rules.specs.Types.{Store, Tx, Schedule, Fault, Value, Cut, Reply, Seen, Written, Found, Mended, Answer, Refusal, Done}
-use Rattle.basic_laws.specs.Refusals.{Case, done, seven, plain, case_of}
+use Rattle.rules.specs.Types.{Store, Tx, Schedule, Fault, Value, Cut, Reply, Seen, Written, Found, Mended, Answer}
 use Rattle.rules.specs.Numbers.{number_of, is_done, More, more_in}
 use Rattle.rules.specs.Calls.{begin, read, write, lookup, row_lock, abort}
 use Rattle.rules.specs.Recovery.{recover}
@@ -14,37 +14,32 @@ use Rattle.rules.specs.Replay.{with_fault, says_of_commit, turn}
 use Rattle.script.specs.Print.{tells}
 use Rattle.replay_core.specs.Turn.{single, leaves, left}
 
--- a refusal other than `Done` is not done
-undone : {why : Refusal} → Case why → (why ≢ Done) → is_done why ≡ false
-undone done n = absurd (n refl)
-undone (seven c f) n = refl
-undone (plain e m) n = e
-
 module _ (S : Store) (x : Tx) (plan : Schedule) where
   module _ {a : Reply} (e : a ≡ begin S) where
-    pub begin_refused : (a.refusal ≢ Done) → left S x plan (number_of a.refusal) (num 0) ≡ turn (line_b 0) (single S x plan)
+    pub begin_refused : is_done a.refusal ≡ false → left S x plan (number_of a.refusal) (num 0) ≡ turn (line_b 0) (single S x plan)
     unfolding turn
     begin_refused some =
-        let n : (begin S).refusal ≢ Done = λ z. some (ap (λ q. q.refusal) e ∙ z) in
-        rw (undone (case_of (begin S).refusal) n) (λ i. left S x plan (number_of (e i).refusal) (num 0))
+        let n : is_done (begin S).refusal ≡ false = sym (ap (λ q. is_done q.refusal) e) ∙ some in
+        rw n (λ i. left S x plan (number_of (e i).refusal) (num 0))
 
-    pub begun : a.refusal ≡ Done → left a.store a.tx plan (number_of a.refusal) (num a.tx.txid.0) ≡ turn (line_b 0) (single S x plan)
+    pub begun : is_done a.refusal ≡ true → left a.store a.tx plan (number_of a.refusal) (num a.tx.txid.0) ≡ turn (line_b 0) (single S x plan)
     unfolding turn
     begun none =
-        let d : is_done (begin S).refusal ≡ true = ap is_done (sym (ap (λ q. q.refusal) e) ∙ none) in
-        rw d (λ i. left (e i).store (e i).tx plan (number_of (none i)) (num (e i).tx.txid.0))
+        let d : is_done (begin S).refusal ≡ true = sym (ap (λ q. is_done q.refusal) e) ∙ none in
+        let zero : number_of a.refusal ≡ 0 = eqb-true (number_of a.refusal) 0 none in
+        rw d (λ i. left (e i).store (e i).tx plan (zero i) (num (e i).tx.txid.0))
 
   module _ (r : ℕ) {a : Seen} (e : a ≡ read S x r) where
-    pub read_refused : (a.refusal ≢ Done) → left S a.tx plan (number_of a.refusal) (num 0) ≡ turn (line_r 0 r) (single S x plan)
+    pub read_refused : is_done a.refusal ≡ false → left S a.tx plan (number_of a.refusal) (num 0) ≡ turn (line_r 0 r) (single S x plan)
     unfolding turn
     read_refused some =
-        let n : (read S x r).refusal ≢ Done = λ z. some (ap (λ q. q.refusal) e ∙ z) in
-        rw (undone (case_of (read S x r).refusal) n) (λ i. left S (e i).tx plan (number_of (e i).refusal) (num 0))
+        let n : is_done (read S x r).refusal ≡ false = sym (ap (λ q. is_done q.refusal) e) ∙ some in
+        rw n (λ i. left S (e i).tx plan (number_of (e i).refusal) (num 0))
 
-    pub read_gave : a.refusal ≡ Done → {t : Third} → t ≡ value_third a.value → left S a.tx plan (number_of a.refusal) t ≡ turn (line_r 0 r) (single S x plan)
+    pub read_gave : is_done a.refusal ≡ true → {t : Third} → t ≡ value_third a.value → left S a.tx plan (number_of a.refusal) t ≡ turn (line_r 0 r) (single S x plan)
     unfolding turn
     read_gave none {t} v =
-        let d : is_done (read S x r).refusal ≡ true = ap is_done (sym (ap (λ q. q.refusal) e) ∙ none) in
+        let d : is_done (read S x r).refusal ≡ true = sym (ap (λ q. is_done q.refusal) e) ∙ none in
         let w : t ≡ value_third (read S x r).value = v ∙ ap (λ q. value_third q.value) e in
         rw d (λ i. left S (e i).tx plan (number_of (e i).refusal) (w i))
 

@@ -7,6 +7,7 @@ ghost use Rattle.replay_core.specs.Turn.{desk_of, turned};
 
 use super::fault::with_fault;
 use super::{Desk, Told};
+use admit::admission::is_done;
 use calls::abort::abort;
 use calls::begin::begin;
 use calls::lock::row_lock;
@@ -14,7 +15,7 @@ use calls::lookup::lookup;
 use calls::read::read;
 use calls::write::write;
 use commit::commit;
-use records::{Cut, Fault, Refusal, RowId, Schedule, Value};
+use records::{Cut, Fault, RowId, Schedule, Value};
 use recovery::recover;
 use script::refusal::more_in;
 
@@ -23,14 +24,12 @@ pub(crate) fn begin_line(d: &mut Desk) -> Told
     ensures { turned d.new result ≡ turn (line_b 0) (desk_of d.old) }
 {
     let a = begin(d.store);
-    match a.refusal {
-        Refusal::Done => {
-            d.store = a.store;
-            d.tx = a.tx;
-            Told::call(a.refusal, a.tx.txid.0)
-        }
-        why => Told::call(why, 0),
+    if !is_done(a.refusal) {
+        return Told::call(a.refusal, 0);
     }
+    d.store = a.store;
+    d.tx = a.tx;
+    Told::call(a.refusal, a.tx.txid.0)
 }
 
 // "key or -"
@@ -48,12 +47,12 @@ pub(crate) fn read_line(d: &mut Desk, row: RowId) -> Told
 {
     let a = read(d.store, d.tx, row);
     d.tx = a.tx;
-    match a.refusal {
-        Refusal::Done => Told {
-            third: key_or_dash(a.value),
-            ..Told::call(a.refusal, 0)
-        },
-        why => Told::call(why, 0),
+    if !is_done(a.refusal) {
+        return Told::call(a.refusal, 0);
+    }
+    Told {
+        third: key_or_dash(a.value),
+        ..Told::call(a.refusal, 0)
     }
 }
 
