@@ -2,14 +2,15 @@
 
 use super::bench::Bench;
 use super::shown::{Shown, compared, rows_of};
-use records::{Refusal, Store};
+use admit::admission::is_done;
+use records::Store;
 use recovery::recover;
 use resting::rest::resting;
 
 // After recovery: a store at rest that isn't poisoned has no guard, no doom and exact postings.
 pub fn sight_of(b: &Bench, s: Store) -> Shown {
     let m = recover(s);
-    if m.refusal != Refusal::Done {
+    if !is_done(m.refusal) {
         return Shown::Refused;
     }
     if m.store.poisoned || !resting(m.store) {
