@@ -11,8 +11,8 @@ ghost use Rattle.calls.specs.BeginAnswer.{begin_tries, begin_puts, begun_of};
 
 use admit::admission::refuse;
 use journal::{Journal, Put};
-use records::{Fate, Refusal, Reply, Store, Tx, Txid};
-use resting::rest::resting;
+use records::{Fate, Refusal, Reply, SlotPtr, Store, Tx, Txid};
+use resting::rest::resting_marked;
 use visibility::active::{active_count, oldest_active};
 
 // Numbers 1, 9, 21 and 22.
@@ -20,7 +20,11 @@ use visibility::active::{active_count, oldest_active};
 fn begin_refusal(s: &Store) -> Result<(), Refusal>
     ensures { result ≡ as_result (begin_tries (resting s.now) s.now.poisoned (at_active s.now.active) s.now.clock) }
 {
-    refuse(!resting(*s), Refusal::NotResting(Fate::Open))?;
+    let mut seen = [0; SlotPtr::PLACES];
+    refuse(
+        !resting_marked(s, &mut seen),
+        Refusal::NotResting(Fate::Open),
+    )?;
     refuse(s.poisoned, Refusal::FoundPoisoned(Fate::Open))?;
     refuse(
         Txid::ACTIVE <= active_count(&s.active),

@@ -19,16 +19,16 @@ use resting::repair::repairable;
 use trim::trim_heads;
 
 // What recovery makes of a store.
-fn recovered(s: Store) -> Store
-    ensures { result ≡ recovered s }
+fn recovered(s: &Store) -> Store
+    ensures { result ≡ recovered s.now }
 {
-    let heads = trim_heads(&s);
+    let heads = trim_heads(s);
     let mut seen = [0; SlotPtr::PLACES];
     walk_all(&heads, &s.next, &mut seen);
     let mut postings = [0; Store::POSTINGS];
-    let posting_count = rebuild(&mut postings, &heads, &s);
+    let posting_count = rebuild(&mut postings, &heads, s);
     let mut xmax = s.xmax;
-    clear_heads(&mut xmax, &heads, &s);
+    clear_heads(&mut xmax, &heads, s);
     keep(&mut xmax, &seen, 0);
     let mut xmin = s.xmin;
     keep(&mut xmin, &seen, 0);
@@ -66,7 +66,7 @@ pub fn recover(s: Store) -> Mended
     ensures { result ≡ recover s }
 {
     if repairable(s) {
-        let store = recovered(s);
+        let store = recovered(&s);
         return Mended {
             refusal: Refusal::Done,
             store,

@@ -1,9 +1,10 @@
 -- The room is enough: an answer line has at most answer_room bytes, and there are at most as many lines as line feeds and one.
 use Rattle.std.specs.Prelude.{◌≡◌, ℕ, zero, suc, ◌+◌, ◌*◌, ◌/◌, ◌%◌, ◌^◌, ◌<◌, ◌≤◌, List, [], ◌∷◌}
-use Rattle.std.specs.Prelude.{◌++◌, length, take, ◌==◌, nat_lt, nat_le, min, refl}
-use Rattle.std.proofs.Common.{sym, append-nil, arith, length-append, count_by}
+use Rattle.std.specs.Prelude.{◌++◌, length, take, drop, ◌==◌, ◌≢◌, nat_lt, nat_le, slice_index, min, refl}
+use Rattle.std.proofs.Common.{sym, append-nil, add-one, arith, length-append, drop_of_length-le, count_by}
+use Rattle.std.proofs.Math.Seq.{drop-cons}
 use Rattle.std.proofs.lemmas.List.Recursion.{is_count_by}
-use borrow.Author.Tests.{leb-true, leb-false, ltb-true, ltb-false}
+use borrow.Author.Tests.{eq-eqb, ne_eqb, leb-true, leb-false, ltb-true, ltb-false}
 use Rattle.records.specs.Limits.{digits64}
 use Rattle.basic_laws.specs.Cases.{by}
 use Rattle.rules.specs.Numbers.{More, nothing, cause, test_named, place_named}
@@ -83,7 +84,21 @@ room_holds s h =
     let q = fed s first in
     rw (sym (whole s h)) (omega (arith, length-append q.answers (ended q.state), fed_short s first, ended_short q.state))
 
--- line feeds, as the library counts
+-- line feeds counted from the front
+module _ (s : Bytes) (i : ℕ) where
+  pub feeds_yes : i < length s → slice_index s i ≡ 10 → line_feeds (drop i s) ≡ suc (line_feeds (drop (i + 1) s))
+  unfolding line_feeds
+  feeds_yes h e = rw (add-one i, drop-cons s i 0 h, eq-eqb _ _ e)
+
+  pub feeds_no : i < length s → (slice_index s i ≢ 10) → line_feeds (drop i s) ≡ line_feeds (drop (i + 1) s)
+  unfolding line_feeds
+  feeds_no h e = rw (add-one i, drop-cons s i 0 h, ne_eqb _ _ e)
+
+  pub feeds_end : length s ≤ i → line_feeds (drop i s) ≡ 0
+  unfolding line_feeds
+  feeds_end h = rw (drop_of_length-le s {i = i} h)
+
+-- as the library counts them
 pub feeds_count : (s : Bytes) → line_feeds s ≡ count_by (λ b. b == 10) s
 unfolding line_feeds
 feeds_count s = is_count_by line_feeds (λ b. b == 10) refl (λ b bs. by (b == 10) (λ t. rw t (omega arith)) (λ t. rw t)) s

@@ -10,7 +10,13 @@ use script::print::Text;
 fn line_feeds(script: &[u8]) -> usize
     ensures { result ≡ line_feeds script.now }
 {
-    script.iter().filter(|b| **b == b'\n').count()
+    let mut feeds = 0;
+    for b in script {
+        if *b == b'\n' {
+            feeds += 1;
+        }
+    }
+    feeds
 }
 
 // So many bytes hold the answers to a script: an answer's room for each line feed, and once more.

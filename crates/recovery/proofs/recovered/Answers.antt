@@ -1,12 +1,11 @@
 -- `recovered` meets its contract: each part is as its function makes it.
-use Rattle.fields.proofs.Lengths.{sized}
+use native.Mathlib.Omega.{arith}
 use Rattle.recovery.specs.Together.{whole}
 use Rattle.recovery.proofs.recovered.Goals as goal
 
 pub returns : goal.returns
 returns c =
-    let z = sized c.args.s c.well_formed.0 in
-    whole c.args.s z.heads z.next
+    whole c.args.s.now (omega arith) (omega arith)
     c.trim_heads-heads.ensures
     c.walk_all.ensures
     c.rebuild-posting_count.ensures
