@@ -36,7 +36,8 @@ module _ (S : Store) (x : Tx) (plan : Schedule) where
         let n : is_done (read S x r).refusal ≡ false = sym (ap (λ q. is_done q.refusal) e) ∙ some in
         rw n (λ i. left S (e i).tx plan (number_of (e i).refusal) (num 0))
 
-    pub read_gave : is_done a.refusal ≡ true → {t : Third} → t ≡ value_third a.value → left S a.tx plan (number_of a.refusal) t ≡ turn (line_r 0 r) (single S x plan)
+    pub read_gave : is_done a.refusal ≡ true → {t : Third} → t ≡ value_third a.value
+        → left S a.tx plan (number_of a.refusal) t ≡ turn (line_r 0 r) (single S x plan)
     unfolding turn
     read_gave none {t} v =
         let d : is_done (read S x r).refusal ≡ true = sym (ap (λ q. is_done q.refusal) e) ∙ none in

@@ -48,13 +48,15 @@ module _ (S : Store) (long : length S.heads ≡ rows) (many : length S.next ≡ 
 
   module _ (seen : List ℕ) (apart : Bool) (w : ◌≡◌ {A = Walk} (record { ok = apart; seen = seen }) (walk (at_rows S.heads) (at_places S.next))) where
     repairable_is : ((((((((apart && leb 1 S.clock) && ltb S.doomed S.clock) && slots_in_form S) && active_in_form S.active S.clock)
-        && all (λ t. ltb t S.clock) S.xmin) && each_or is_zero nonzero seen S.xmin) && all (chain_at S) S.heads) && all (off_at S seen) (used_slots S.xmin)) ≡ repairable S
+        && all (λ t. ltb t S.clock) S.xmin) && each_or is_zero nonzero seen S.xmin) && all (chain_at S) S.heads) && all (off_at S seen) (used_slots S.xmin))
+        ≡ repairable S
     unfolding repairable chain_at off_at
     repairable_is =
         let e = w ∙ walk_is in
         let last : List Bool = each_or is_zero nonzero seen S.xmin ∷ all (chain_at S) S.heads ∷ all (off_at S seen) (used_slots S.xmin) ∷ [] in
         rw (← e)
-        (so_far_every true (apart ∷ leb 1 S.clock ∷ ltb S.doomed S.clock ∷ slots_in_form S ∷ active_in_form S.active S.clock ∷ all (λ t. ltb t S.clock) S.xmin ∷ last)
+        (so_far_every true
+        (apart ∷ leb 1 S.clock ∷ ltb S.doomed S.clock ∷ slots_in_form S ∷ active_in_form S.active S.clock ∷ all (λ t. ltb t S.clock) S.xmin ∷ last)
         ∙ cheap_first apart (ltb S.doomed S.clock) (leb 1 S.clock) (slots_in_form S) (active_in_form S.active S.clock) (all (λ t. ltb t S.clock) S.xmin) last)
 
     pub repairable_says : (v r : Bool)
