@@ -68,7 +68,7 @@ fn closing(l: &Letters, logged: bool) -> Result<(), Gate>
     gates::publish_index_stamps(l)
 }
 
-// The first gate whose test holds ends the run, with the cause that a 7 gives there.
+// The first gate whose test holds ends the run, with the cause of its place: only at a test's two gates is it not a busy guard.
 pub fn first_gate(l: &Letters, logged: bool, writing: bool, s: &Store, x: &Tx) -> Result<(), Stop>
     ensures { (S : Store)
         → Lends S s.now.stamps s.now.heads s.now.locked s.now.owner s.now.active s.now.xmin s.now.xmax
