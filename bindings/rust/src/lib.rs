@@ -29,7 +29,7 @@
 //! # Stack
 //!
 //! A replay has no heap and no state between calls: the store and the transactions are on the caller's
-//! stack, some 302 KB at the deepest call, however long the script (measured on threads of given
+//! stack, some 296 KB at the deepest call, however long the script (measured on threads of given
 //! sizes: `examples/stack.rs`). A Rust thread of default size, 2 MB, does, and so does one of 512 KB:
 //! a test runs on each.
 //!
