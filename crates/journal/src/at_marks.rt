@@ -9,9 +9,8 @@ ghost use Rattle.journal.specs.AtMarks.{placed, frees_at};
 use super::{Journal, Put};
 use records::{RowId, SlotPtr, Store, Txid};
 
-// The put of each marked place, rising, and no more than `limit`: guards, stamps, frees. The `requires` says that the closure may be called at the places
-// of the marks, and no more: of marks, limit and journal nothing is asked.
-pub fn push_marked<F: Fn(usize) -> Put>(marks: &[bool], put: F, limit: usize, j: &mut Journal)
+// The put of each marked place, rising, and no more than `limit`.
+fn push_marked<F: Fn(usize) -> Put>(marks: &[bool], put: F, limit: usize, j: &mut Journal)
     requires { (i : ℕ) → i < length marks.now → F.pre put i }
     ensures { (f : ℕ → RulesPut) → ((i : ℕ) (p : _) → i < length marks.now → F.post put i p → meant p ≡ f i)
         → Adds j.old (take limit (placed f marks.now)) j.new }
